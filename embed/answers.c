@@ -198,7 +198,7 @@ static void recordings(struct dsp_engine *engine) {
     IS(dsp_engine_close(engine, 2), 0);
 }
 
-/* The mapped slot is numbered behind the one that plays. */
+/* The mapped slot is numbered after the one that plays. */
 static void mapped_channels(struct dsp_engine *engine) {
     uint8_t bytes[4] = {1, 2, 3, 4};
 

@@ -9,7 +9,7 @@
 
 #include "dsp_raw.h"
 
-/* Whether elements are told of and none are there. */
+/* Whether a count of elements is given and none are there. */
 static bool is_lacking(const void *elements, size_t count) {
     return elements == NULL && count != 0;
 }

@@ -1,6 +1,6 @@
 /*
  * The engine of dsp_replay as a library: what a kernel does with the sound of several clients, call by call, with the caller's own
- * bytes. It is proved to do what docs/SPEC.md says; docs/EMBEDDING.md tells what that is for a caller, and what is trusted.
+ * bytes. It is proved to do what docs/SPEC.md says; docs/EMBEDDING.md says what that is for a caller, and what is trusted.
  *
  * An engine is one device. A client opens a descriptor of it, writes frames, and asks for its room and its position by the requests of
  * the Open Sound System. Each call is one indivisible step. An interrupt, which is a call too, mixes what the clients gave and hands
@@ -47,7 +47,7 @@ extern "C" {
 
 /* ---- the version ---- */
 
-/* Of this header: the major number * 65536 + the minor one * 256 + that of the patch. dsp_engine_version tells the library's. */
+/* Of this header: the major number * 65536 + the minor one * 256 + that of the patch. dsp_engine_version answers the library's. */
 #define DSP_ENGINE_VERSION 0x00020000
 
 /* ---- what calls answer ---- */
@@ -113,7 +113,7 @@ struct dsp_device {
     uint32_t rate;         /* frames per second, 4000 to 192000 */
     uint32_t mix_channels; /* channels of the mix; 0: as the device */
     uint32_t mix_rate;     /* frames per second of the mix; 0: as the device */
-    uint32_t ring_frames;  /* frames of the device's ring, 1 to 262144: what is mixed is handed over so many frames later */
+    uint32_t ring_frames;  /* frames of the device's ring, 1 to 262144: what is mixed is handed over that many frames later */
     uint32_t play_slots;   /* how many clients can play at once. With those that are mapped at most 16 */
     uint32_t record_slots; /* how many can record at once, at most 16 */
     uint32_t map_slots;    /* how many can have a mapped area at once */
@@ -169,10 +169,10 @@ enum dsp_request {
     DSP_SETFRAGMENT = 6,  /* argument: 0xCCCCSSSS, CCCC fragments of 2 to the power SSSS bytes. first: the same, as it is now */
     DSP_GETOSPACE = 7,    /* what a write would take now. first: whole fragments, second: fragments in all, third: bytes of one, fourth: bytes */
     DSP_GETISPACE = 8,    /* what a read would get now, in the same numbers */
-    DSP_GETOPTR = 9,      /* how far it has played. first: bytes, second: fragments passed since it was told last, third: the place in the ring */
+    DSP_GETOPTR = 9,      /* how far it has played. first: bytes, second: fragments passed since the last answer, third: the place in the ring */
     DSP_GETIPTR = 10,     /* how far it has recorded, in the same numbers */
     DSP_GETODELAY = 11,   /* first: bytes that wait */
-    DSP_GETERROR = 12,    /* shortages since it was told last. first: of playing, second: of recording */
+    DSP_GETERROR = 12,    /* shortages since the last answer. first: of playing, second: of recording */
     DSP_SETTRIGGER = 13,  /* argument: whether the channel may start, by 1 for recording and 2 for playing */
     DSP_GETTRIGGER = 14,  /* first: what it is */
     DSP_SETPLAYVOL = 15,  /* argument: left + 256 * right, 0 to 100 each. first: the same, as it is now */
@@ -182,7 +182,7 @@ enum dsp_request {
     DSP_HALT = 19         /* drop what is there */
 };
 
-/* What the mixer device is asked. Volumes are numbers as those of DSP_SETPLAYVOL, and slots those that openings are told. */
+/* What the mixer device is asked. Volumes are numbers as those of DSP_SETPLAYVOL, and slots those that dsp_engine_open answers. */
 enum dsp_mixer_request {
     DSP_SET_MASTER = 0, /* value: the volume of all that is mixed. first: the same, as it is now */
     DSP_GET_MASTER = 1, /* first: what it is */
@@ -202,7 +202,7 @@ enum dsp_state {
 /* How the channel of a descriptor is. */
 struct dsp_settings {
     uint32_t way;            /* one of enum dsp_way */
-    uint32_t slot;           /* the number that its opening was told */
+    uint32_t slot;           /* the number that dsp_engine_open answered */
     uint32_t format;         /* one of enum dsp_format */
     uint32_t channels;       /* 1, 2, 4, 6 or 8 */
     uint32_t rate;           /* frames per second */
@@ -284,13 +284,13 @@ void dsp_engine_destroy(struct dsp_engine *engine);
 /* Opens descriptor fd, 0 to 63, with such frames, in the least free slot of its way. Answers the number of the slot. */
 int32_t dsp_engine_open(struct dsp_engine *engine, uint32_t fd, enum dsp_way way, uint32_t format, uint32_t channels, uint32_t rate);
 
-/* Writes so many bytes to a descriptor that plays. Answers how many of them its ring took: the first ones. */
+/* Writes length bytes to a descriptor that plays. Answers how many of them its ring took: the first ones. */
 int32_t dsp_engine_write(struct dsp_engine *engine, uint32_t fd, const void *bytes, size_t length);
 
-/* Writes so many bytes into the area of a mapped descriptor, from its byte offset on. Answers 0. */
+/* Writes length bytes into the area of a mapped descriptor, from its byte offset on. Answers 0. */
 int32_t dsp_engine_poke(struct dsp_engine *engine, uint32_t fd, uint32_t offset, const void *bytes, size_t length);
 
-/* Reads at most so many bytes, and never more than 4096, of what a descriptor has recorded. Answers how many stand at the front of bytes. */
+/* Reads at most length bytes, and never more than 4096, of what a descriptor has recorded. Answers how many stand at the front of bytes. */
 int32_t dsp_engine_read(struct dsp_engine *engine, uint32_t fd, void *bytes, size_t length);
 
 /* Asks something of the channel of a descriptor. Answers 0, and what is asked in answer, which may be null. */
@@ -313,7 +313,7 @@ int32_t dsp_engine_mixer(struct dsp_engine *engine, enum dsp_mixer_request reque
                          struct dsp_answer *answer);
 
 /*
- * The device takes so many frames, 1 to those of its ring. Answers how many bytes they are: they stand at the front of out, whose room they
+ * The device takes that many frames, 1 to those of its ring. Answers how many bytes they are: they stand at the front of out, whose room they
  * need. With them come the frames that the device captured meanwhile: samples of 32 bits, as many as the device has channels for each frame,
  * frame by frame. There may be fewer, and never more, or none and then null: after them is silence. Where out is null and room is 0, nobody hears
  * the frames: all is as with room, also the answer, and the bytes are let go.
@@ -338,24 +338,24 @@ uint64_t dsp_engine_frames_left(struct dsp_engine *engine);
 int32_t dsp_engine_settings(struct dsp_engine *engine, uint32_t fd, struct dsp_settings *settings);
 
 /*
- * What dsp_engine_ioctl would answer now, and put into answer, which may be null. Nothing is done: a position that is told so isn't the one
- * from which the next counts fragments, and shortages stay to be told.
+ * What dsp_engine_ioctl would answer now, and put into answer, which may be null. Nothing is done: a position in it isn't the one
+ * from which the next counts fragments, and shortages stay to be answered.
  */
 int32_t dsp_engine_peek(struct dsp_engine *engine, uint32_t fd, enum dsp_request request, uint32_t argument, struct dsp_answer *answer);
 
-/* What DSP_GETOSPACE would tell of a channel that plays, and DSP_GETISPACE of one that records. Answers 0. */
+/* What DSP_GETOSPACE would answer of a channel that plays, and DSP_GETISPACE of one that records. Answers 0. */
 int32_t dsp_engine_space(struct dsp_engine *engine, uint32_t fd, struct dsp_space *space);
 
-/* What DSP_GETOPTR would tell of a channel that plays or is mapped, and DSP_GETIPTR of one that records. Answers 0. */
+/* What DSP_GETOPTR would answer of a channel that plays or is mapped, and DSP_GETIPTR of one that records. Answers 0. */
 int32_t dsp_engine_position(struct dsp_engine *engine, uint32_t fd, struct dsp_position *position);
 
-/* What DSP_GETODELAY would tell of a channel that plays. Answers 0. */
+/* What DSP_GETODELAY would answer of a channel that plays. Answers 0. */
 int32_t dsp_engine_delay(struct dsp_engine *engine, uint32_t fd, uint32_t *bytes);
 
-/* What DSP_GETERROR would tell. Answers 0. */
+/* What DSP_GETERROR would answer. Answers 0. */
 int32_t dsp_engine_errors(struct dsp_engine *engine, uint32_t fd, struct dsp_errors *errors);
 
-/* How a slot of a way is, by the number that openings are told. Answers 0. */
+/* How a slot of a way is, by the number that dsp_engine_open answers. Answers 0. */
 int32_t dsp_engine_slot(struct dsp_engine *engine, enum dsp_way way, uint32_t number, struct dsp_slot *slot);
 
 /*
@@ -374,9 +374,9 @@ int32_t dsp_engine_is_ready(struct dsp_engine *engine, uint32_t fd);
 int32_t dsp_engine_ready(struct dsp_engine *engine, uint64_t *writable, uint64_t *readable);
 
 /*
- * After how many frames, taken by one interrupt, a write of so many bytes fits whole, or so many bytes can be read, if nothing else happens
+ * After how many frames, taken by one interrupt, a write of that many bytes fits whole, or as many can be read, if nothing else happens
  * meanwhile: after as many it is so, and after one fewer it isn't. Answers how many: 0 where it is so now. DSP_INVALID where the descriptor
- * is mapped, and DSP_BUSY where it isn't so after 4294967295 frames either: nothing takes or brings frames, or so many never fit.
+ * is mapped, and DSP_BUSY where it isn't so after 4294967295 frames either: nothing takes or brings frames, or that many never fit.
  */
 int64_t dsp_engine_frames_until(struct dsp_engine *engine, uint32_t fd, uint32_t bytes);
 

@@ -47,7 +47,7 @@ static double stopped(uint32_t taps, double ratio) {
     return decibels < 100.0 ? decibels : 100.0;
 }
 
-/* Kaiser's b, for so many decibels. */
+/* Kaiser's b, for a number of decibels. */
 static double kaiser_shape(double decibels) {
     if (decibels > 50) {
         return 0.1102 * (decibels - 8.7);
@@ -116,7 +116,7 @@ static uint32_t least_of(const double *numbers, uint32_t count) {
     return least;
 }
 
-/* A row as whole numbers with the sum 2 to the power of the shift: rounded down, and up where that leaves most behind. */
+/* A row as whole numbers with the sum 2 to the power of the shift: rounded down, and up where that leaves the greatest rest. */
 static void round_row(int32_t *coefs, const double *row, uint32_t taps, uint32_t shift) {
     double behind[TAPS_MOST];
     int64_t missing = (int64_t)1 << shift;

@@ -18,11 +18,11 @@ extern "C" {
  * coefficients.
  */
 
-/* How many coefficients a filter has with so many phases and taps: at most 16384. 0 where there is no such filter. */
+/* How many coefficients a filter has with these phases and taps: at most 16384. 0 where there is no such filter. */
 size_t dsp_filter_size(uint32_t phases, uint32_t taps);
 
 /*
- * Makes the filter from src to dst frames per second with so many phases and taps, or the one for any rates where src and dst are 0. The
+ * Makes the filter from src to dst frames per second with these phases and taps, or the one for any rates where src and dst are 0. The
  * struct has these, and in first where the coefficients are to begin in the array coefs, which has room for coef_count. What is made is its
  * shift, and the coefficients. The slope ends at half the lower rate where cut is 0. Else its middle lies at this fraction of half the lower
  * rate, above 0 and up to 1. Phases are exact where they are a multiple of dst over the greatest common divisor of src and dst. Answers 0, or
@@ -32,9 +32,9 @@ int32_t dsp_filter_make(struct dsp_filter *filter, double cut, int32_t *coefs, s
 
 /* What a section does. */
 enum dsp_section_kind {
-    DSP_LOW_SHELF = 0,  /* below hertz the gain is so many decibels, and half of that at hertz. width: the slope, 0.01 to 1 */
+    DSP_LOW_SHELF = 0,  /* below hertz the gain is this many decibels, and half of that at hertz. width: the slope, 0.01 to 1 */
     DSP_HIGH_SHELF = 1, /* the same above hertz */
-    DSP_PEAK = 2,       /* at hertz the gain is so many decibels, and none far from it. width: Q, 0.01 to 1000 */
+    DSP_PEAK = 2,       /* at hertz the gain is this many decibels, and none far from it. width: Q, 0.01 to 1000 */
     DSP_LOW_PASS = 3,   /* what lies above hertz is stopped; decibels are 0. width: Q, flat with 0.7071 */
     DSP_HIGH_PASS = 4   /* the same below hertz */
 };

@@ -69,7 +69,7 @@ static size_t size_of(const struct row *row) {
     return row->on_linux >> 16 & 0x1fff;
 }
 
-/* Fills the argument with what the engine told, one int after another, and with zeros behind that. */
+/* Fills the argument with what the engine answered, one int after another, and with zeros after that. */
 static void put_told(const struct call *call, const struct dsp_answer *answer) {
     const uint32_t numbers[] = {(uint32_t)answer->first, (uint32_t)answer->second, (uint32_t)answer->third, (uint32_t)answer->fourth};
     if (call->row->told != 0) {
@@ -175,7 +175,7 @@ static int bits(const struct call *call) {
     return answered;
 }
 
-/* The way that a descriptor has. What waits for a read is told of recordings alone. */
+/* The way that a descriptor has. Only a recording answers what waits for a read. */
 static uint32_t mode_of(const struct call *call) {
     return ask(call, DSP_GETISPACE, 0, NULL) == 0 ? ENABLE_INPUT : ENABLE_OUTPUT;
 }

@@ -1,7 +1,7 @@
 /*
  * The requests of the Open Sound System on an engine, as a program makes them: with the numbers, the arguments and the structs of
- * <sys/soundcard.h>. This is for whoever plays /dev/dsp to a program: an emulator of a kernel, or a library that is loaded into it. It makes
- * the calls of dsp_engine.h that a request stands for, and adds no rule of sound. Compile dsp_oss.c with your program.
+ * <sys/soundcard.h>. It is for programs that play /dev/dsp to another: an emulator of a kernel, or a library that is loaded into it. It
+ * makes the calls of dsp_engine.h that a request stands for, and adds no rule of sound. Compile dsp_oss.c with your program.
  */
 #ifndef DSP_OSS_H
 #define DSP_OSS_H
@@ -44,14 +44,14 @@ extern "C" {
  *   SNDCTL_DSP_SYNCGROUP                      the mode of its struct is PCM_ENABLE_OUTPUT, 2, of a channel that plays, and PCM_ENABLE_INPUT,
  *                                             1, of one that records
  *
- * Codes of formats are those of enum dsp_format, which are FreeBSD's; 8 and 16 bits have the same on Linux. Numbers of 64 bits are told by
- * their low 32. All bytes of a struct that the engine tells nothing of are 0.
+ * Codes of formats are those of enum dsp_format, which are FreeBSD's; 8 and 16 bits have the same on Linux. Numbers of 64 bits are given by
+ * their low 32. All bytes of a struct for which the engine has no answer are 0.
  *
  * A request is one call of the engine or two.
  */
 int dsp_oss_ioctl(struct dsp_engine *engine, uint32_t fd, unsigned long request, void *argument, unsigned flags);
 
-/* The version that OSS_GETVERSION tells: 4.0, the first that has volumes, errors and groups. */
+/* The version that OSS_GETVERSION answers: 4.0, the first that has volumes, errors and groups. */
 #define DSP_OSS_VERSION 0x040000
 
 /* ---- structs, for programs without <sys/soundcard.h> or with one that lacks them ---- */

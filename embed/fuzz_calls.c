@@ -1,14 +1,15 @@
 /*
  * Tries sequences of calls: the bytes of an input are an engine and calls of it, right and wrong ones. scripts/fuzz-calls builds and runs it.
  *
- * One engine gets all calls. Another gets those that the first accepted, and no more of each than was taken: the bytes that the ring took, room for
- * just what is handed over, captured silence written out. Both answer alike and hand over the same bytes, and at the end both are asked for all that
- * they tell: so what was refused has changed nothing. A call is answered as one that no engine takes exactly where a number is outside the limits of dsp_engine.h. And some sequences
- * are run as scripts by the program, which replies and hands over the same.
+ * One engine gets all calls. Another gets those that the first accepted, and no more of each than was taken: the bytes that the ring took,
+ * room for just what is handed over, captured silence written out. Both answer alike and hand over the same bytes, and at the end both are
+ * asked for all that they answer: so what was refused has changed nothing. A call is answered as one that no engine takes exactly where a
+ * number is outside the limits of dsp_engine.h. And some sequences are run as scripts by the program, which replies and hands over the
+ * same.
  *
- * Between the calls the first engine is asked questions. The other one is asked nothing then, or the same, or the same in other words: so a question has
- * changed nothing, and is answered what the calls are. A request is answered as it was told before, and a client can go on after just as many frames as
- * it was told to wait.
+ * Between the calls the first engine is asked questions. The other one is asked nothing then, or the same, or the same in other words: so
+ * a question has changed nothing, and is answered what the calls are. A request is answered as its question was before, and a client can
+ * go on after just as many frames as the question of its wait answered.
  */
 #include <stdio.h>
 #include <stdlib.h>
@@ -33,7 +34,7 @@ struct run {
     struct dsp_answer asked_answer;
     struct script script;
     bool is_scripted;
-    bool is_ending; /* behind the calls of the input: the second engine gets all calls, too */
+    bool is_ending; /* after the calls of the input: the second engine gets all calls, too */
     unsigned made;
 };
 
@@ -101,7 +102,7 @@ static void check_number(const struct run *run, const struct call *call) {
     }
 }
 
-/* Whether a call tells something in an answer, where it is accepted. */
+/* Whether a call puts something into an answer, where it is accepted. */
 static bool is_answered(const struct call *call) {
     bool is_peek = call->kind == CALL_ASK && call->numbers[QUESTION] == ASK_PEEK;
     return !call->is_null && (is_peek || call->kind == CALL_IOCTL || call->kind == CALL_JOIN || call->kind == CALL_MIXER);
@@ -182,7 +183,7 @@ static void try_question(struct run *run, const struct call *call) {
     run->asked_answer = got->answer;
 }
 
-/* A request is answered what it was told to be. */
+/* A request is answered what its question was before. */
 static void check_peek(const struct run *run, const struct call *call) {
     const uint32_t *asked = run->asked.numbers, *numbers = call->numbers;
     if (call->kind != CALL_IOCTL || asked[FD] != numbers[FD] || asked[REQUEST] != numbers[REQUEST] || asked[ARGUMENT] != numbers[ARGUMENT]) {
@@ -193,7 +194,7 @@ static void check_peek(const struct run *run, const struct call *call) {
          "it was told other numbers before");
 }
 
-/* Behind an interrupt a client can go on exactly where that has as many frames as it was told to wait for. */
+/* After an interrupt a client can go on exactly where that has as many frames as the question of its wait answered. */
 static void check_wait(const struct run *run, const struct call *call) {
     int64_t before = run->asked_number, after = 0;
     if (call->kind != CALL_INTERRUPT || run->of_first.number < 0) {
@@ -257,7 +258,7 @@ static void try_all(struct run *run, struct calls *calls, void (*try_one)(struct
     }
 }
 
-/* Whether an input is one of every so many that are run as scripts, by its bytes. */
+/* Whether an input is one of those that are run as scripts, by its bytes. */
 static bool is_chosen(const uint8_t *bytes, size_t length) {
     const char *every = getenv("FUZZ_CALLS_EVERY");
     unsigned long number = every == NULL ? 0 : strtoul(every, NULL, 10);

@@ -97,7 +97,7 @@ struct row {
     int given, answer, told;
 };
 
-/* One line after another, behind `open 0 play`. */
+/* One line after another, after `open 0 play`. */
 static const struct row settings[] = {
     {OSS_GETVERSION, 0, 7, 0, 0x040000},
     {SOUND_PCM_READ_RATE, 0, 7, 0, 8000},
@@ -271,7 +271,7 @@ static void is_position(struct dsp_engine *engine, uint32_t fd, unsigned long re
     check_fields("count_info", &info, expected, COUNT(expected));
 }
 
-/* The counts of shortages stand at the front, and all else of the struct is 0; what lies behind it is as it was. */
+/* The counts of shortages stand at the front, and all else of the struct is 0; what lies after it is as it was. */
 static void is_short(struct dsp_engine *engine, uint32_t fd, unsigned long request, int underruns, int overruns) {
     int told[32], expected[32] = {underruns, overruns};
     size_t size = request >> 16 & 0x1fff;
@@ -295,7 +295,7 @@ static void interrupt(struct dsp_engine *engine, uint32_t frames, const int32_t 
     IS(dsp_engine_interrupt(engine, frames, samples, count, out, sizeof out), 4 * frames);
 }
 
-/* Behind the settings: two fragments of 16 bytes, and a frame of four. */
+/* After the settings: two fragments of 16 bytes, and a frame of four. */
 static void playing(struct dsp_engine *engine) {
     static const uint8_t bytes[16] = {0};
     int delay = 0;
@@ -320,7 +320,7 @@ static void playing(struct dsp_engine *engine) {
     is_space(engine, PLAYER, SNDCTL_DSP_GETOSPACE, 2, 32);
 }
 
-/* Below a fragment it is the post that starts. Behind a sync nothing more is taken. */
+/* Below a fragment it is the post that starts. After a sync nothing more is taken. */
 static void starting_and_draining(struct dsp_engine *engine) {
     static const uint8_t frame[4] = {0};
 
@@ -363,7 +363,7 @@ static void recording(struct dsp_engine *engine) {
 
 /* ---- groups ---- */
 
-/* A request to join a group, what it is answered, and the number of the group that it tells. */
+/* A request to join a group, what it is answered, and the number of the group that it answers. */
 static void is_joined(struct dsp_engine *engine, uint32_t fd, int id, int mode, int answer, int told) {
     struct dsp_oss_group group = {id, mode, {7}};
     IS(dsp_oss_ioctl(engine, fd, DSP_OSS_LINUX_SYNCGROUP, &group, 0), answer);

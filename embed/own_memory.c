@@ -1,6 +1,6 @@
 /*
  * A program that brings the library its own memory: a test. It is linked with a copy of the archive in which objcopy has put own_malloc,
- * own_realloc and own_free in the place of malloc, realloc and free, as docs/EMBEDDING.md tells it. They take from a pool, count, and refuse
+ * own_realloc and own_free in the place of malloc, realloc and free, as docs/EMBEDDING.md says. They take from a pool, count, and refuse
  * one request after another.
  */
 #include <stdio.h>
@@ -10,7 +10,7 @@
 
 enum { POOL = 4 << 20, HEAD = 16 };
 
-/* A block is its size in a head of 16 bytes, and behind that its bytes: the pool's next ones. Nothing is taken back into the pool. */
+/* A block is its size in a head of 16 bytes, and after that its bytes: the pool's next ones. Nothing is taken back into the pool. */
 static union {
     long double most_aligned;
     uint8_t bytes[POOL];

@@ -31,7 +31,7 @@ static const struct dsp_device device = {
     .quality = 1,
 };
 
-/* So many frames leave the device, in interrupts of 256 at most. */
+/* These frames leave the device, in interrupts of 256 at most. */
 static void pass(struct dsp_engine *engine, uint32_t frames) {
     uint8_t out[ROOM];
     while (frames > 0) {
@@ -164,7 +164,7 @@ static void of_one_that_plays(struct dsp_engine *engine) {
     IS(dsp_engine_position(engine, 7, &position), 0);
     IS(dsp_engine_position(engine, 7, &position), 0);
     IS(position.bytes, 4096);
-    IS(position.fragments, 1); /* asking tells no position */
+    IS(position.fragments, 1); /* a question isn't the last answer */
     IS(position.place, 4096);
     IS(dsp_engine_ioctl(engine, 7, DSP_GETOPTR, 0, &told), 0);
     IS(told.second, 1);

@@ -1,6 +1,6 @@
 /*
  * How much stack the library's calls take, measured: a test. A thread has a stack of known bytes; before a call those below it are painted,
- * and behind it those count that are no longer so. It fails where the page says less.
+ * and after it those count that are no longer so. It fails where the page says less.
  */
 #define _POSIX_C_SOURCE 200809L
 #include <pthread.h>

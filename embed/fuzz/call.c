@@ -186,7 +186,7 @@ static void take_interrupt(struct calls *calls, struct call *call) {
     calls->frames_left -= is_large ? 0 : lesser(frames, calls->frames_left);
 }
 
-/* Behind a question of what a request would be told that request, and behind one of a wait an interrupt. */
+/* After a question of what a request would answer comes that request, and after one of a wait an interrupt. */
 static void take_next(struct calls *calls, const struct call *call) {
     const struct call interrupt = {CALL_INTERRUPT, {0, 0, 0, 0, 0}, 0, 0, 0, false};
     bool is_peek = call->numbers[QUESTION] == ASK_PEEK, is_wait = call->numbers[QUESTION] == ASK_FRAMES_UNTIL;
@@ -286,7 +286,7 @@ static void take_call(struct calls *calls, struct call *call) {
     take_numbers(calls, call);
 }
 
-/* What a descriptor is asked behind the calls of an input: what it tells, and to start. */
+/* What a descriptor is asked after the calls of an input: all that it answers, and to start. */
 static const struct {
     uint32_t request, argument;
 } asked[] = {
@@ -313,7 +313,7 @@ static void ask_descriptor(uint32_t number, struct call *call) {
     call->room = call->kind == CALL_READ ? READ_MOST : 0;
 }
 
-/* Asks a few descriptors and the mixer device for all that they tell, and then hears what is left. */
+/* Asks a few descriptors and the mixer device for all that they answer, and then hears what is left. */
 static bool ask_call(uint32_t number, const struct dsp_device *device, struct call *call) {
     const uint32_t of_descriptors = CLIENTS * OF_DESCRIPTOR, of_mixer = of_descriptors + 1 + CLIENTS;
 

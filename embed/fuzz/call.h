@@ -35,7 +35,7 @@ enum question_kind {
     QUESTIONS
 };
 
-/* The places of a call's numbers, which are those of the function's parameters behind the engine. */
+/* The places of a call's numbers, which are those of the function's parameters after the engine. */
 enum call_number {
     FD = 0,
     WAY = 1,
@@ -78,15 +78,15 @@ struct calls {
     const struct dsp_device *device;
     uint32_t frames_left; /* that interrupts may still take, so that no input takes long */
     uint32_t made;        /* that the input said */
-    uint32_t asked;       /* behind them */
-    bool has_next;        /* behind a question the call that it told of */
+    uint32_t asked;       /* after them */
+    bool has_next;        /* after a question the call that it was about */
     struct call next;
 };
 
-/* The calls behind a setup, which is the one that the input began with. */
+/* The calls after a setup, which is the one that the input began with. */
 void begin_calls(struct calls *calls, struct input input, const struct setup *setup);
 
-/* The next call. Answers false behind the last one. */
+/* The next call. Answers false after the last one. */
 bool next_call(struct calls *calls, struct call *call);
 
 /* Bytes of a sample, of a frame of the device. */

@@ -2,7 +2,7 @@
  * Stands in for libFuzzer where clang isn't there: fuzz_calls [-seed=N] [-runs=N] [-max_total_time=N] [-artifact_prefix=PATH] [INPUT ..]
  *
  * It makes inputs without a pattern, the same ones for the same seed and without an end where no flag sets one, or takes those of files. The input
- * that is being tried stands in a file, PATH and behind it `input`, and is left there where the process ends in the middle of it.
+ * that is being tried stands in a file, PATH and after it `input`, and is left there where the process ends in the middle of it.
  */
 #include <stdio.h>
 #include <stdlib.h>
@@ -23,7 +23,7 @@ struct options {
     const char *prefix;
 };
 
-/* The text behind a flag, or none if the word is another one. */
+/* The text after a flag, or none if the word is another one. */
 static const char *behind(const char *word, const char *flag) {
     return strncmp(word, flag, strlen(flag)) == 0 ? word + strlen(flag) : NULL;
 }
@@ -63,7 +63,7 @@ static void try_file(const char *path) {
     LLVMFuzzerTestOneInput(bytes, length);
 }
 
-/* Tries inputs that are made of a seed, until there were so many or so many seconds passed. */
+/* Tries inputs that are made of a seed, until as many were made, or as many seconds passed, as the flags say. */
 static void try_made(const struct options *options) {
     uint8_t bytes[MADE_MOST];
     char path[PATH_MOST];

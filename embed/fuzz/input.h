@@ -1,4 +1,4 @@
-/* The bytes of an input of the fuzzer, taken one after another. Behind the last one all are 0. */
+/* The bytes of an input of the fuzzer, taken one after another. After the last one all are 0. */
 #ifndef FUZZ_INPUT_H
 #define FUZZ_INPUT_H
 
@@ -20,7 +20,7 @@ uint32_t take_number(struct input *input);
 /* One of a list, by the next byte. */
 uint32_t take_one_of(struct input *input, const uint32_t *list, size_t count);
 
-/* Whether the next byte is one of the first so many of 256. */
+/* True with a chance of of_256 in 256, by the next byte: it is one of the greatest. */
 bool take_chance(struct input *input, uint32_t of_256);
 
 /* Bytes without a pattern, the same ones for the same seed. */

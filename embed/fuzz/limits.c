@@ -90,7 +90,7 @@ static bool is_slot(uint32_t way, uint32_t number, const struct dsp_device *devi
     }
 }
 
-/* Whether a question is of a descriptor, a request or a slot that there is, and has where to be told. */
+/* Whether a question is of a descriptor, a request or a slot that there is, and has a place for its answer. */
 static bool question_is_right(const struct call *call, const struct dsp_device *device) {
     const uint32_t *numbers = call->numbers;
     switch (numbers[QUESTION]) {

@@ -4,20 +4,20 @@
 
 #include "question.h"
 
-/* What a call brings: so many bytes, or samples and behind them silence. */
+/* What a call brings: bytes, or samples and after them silence. */
 struct brought {
     uint8_t *bytes;
     int32_t *samples;
     size_t sample_room;
 };
 
-/* What a call came to. Before it all of it that the call could reach is marked. */
+/* The outcome of a call. Before it all of it that the call could reach is marked. */
 struct got {
     int64_t number;
     struct dsp_answer answer;
     union report report; /* of a question */
     uint8_t *out;
-    size_t out_room; /* of all calls; GUARD bytes stand behind it */
+    size_t out_room; /* of all calls; GUARD bytes stand after it */
 };
 
 enum { GUARD = 32, MARK = 0xa5 };
@@ -32,17 +32,17 @@ void bring(struct brought *brought, const struct call *call, const struct dsp_de
 /* Makes an engine of a setup. */
 int32_t make_engine(struct dsp_engine *engine, const struct setup *setup);
 
-/* Makes a call, and keeps what it came to. */
+/* Makes a call, and keeps its outcome. */
 void make_call(struct dsp_engine *engine, const struct setup *setup, const struct call *call, const struct brought *brought,
                struct got *got);
 
-/* Whether the bytes of the room of a call, from one on, are still marked, and those behind the room. */
+/* Whether the bytes of the room of a call, from one on, are still marked, and those after the room. */
 bool is_marked(const struct got *got, const struct call *call, size_t from);
 
 /* Whether the answer is still marked. */
 bool is_answer_marked(const struct got *got);
 
-/* Whether what questions are told is still marked, from a byte on. */
+/* Whether the room for what questions answer is still marked, from a byte on. */
 bool is_report_marked(const struct got *got, size_t from);
 
 #endif

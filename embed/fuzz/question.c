@@ -1,4 +1,4 @@
-/* How questions are asked, and which of them must tell the same. */
+/* How questions are asked, and which of them must answer the same. */
 #include "question.h"
 
 #include <string.h>
@@ -53,19 +53,19 @@ int64_t ask_question(struct dsp_engine *engine, const struct call *call, union r
     }
 }
 
-/* What a request would be told, or of a channel of the other way another one. */
+/* What a request would answer, or of a channel of the other way another one. */
 static int32_t peek(struct dsp_engine *engine, uint32_t fd, enum dsp_request one, enum dsp_request other, struct dsp_answer *answer) {
     int32_t number = dsp_engine_peek(engine, fd, one, 0, answer);
     return number == DSP_INVALID ? dsp_engine_peek(engine, fd, other, 0, answer) : number;
 }
 
-/* Whether a request would be told a number. */
+/* Whether a request would answer a number. */
 static bool is_peeked(struct dsp_engine *engine, uint32_t fd, enum dsp_request request, uint64_t number) {
     struct dsp_answer answer = {0, 0, 0, 0};
     return dsp_engine_peek(engine, fd, request, 0, &answer) == 0 && answer.first == number;
 }
 
-/* Settings are what the requests for them would be told, and the slot is held. */
+/* Settings are what the requests for them would answer, and the slot is held. */
 static bool are_settings(struct dsp_engine *engine, uint32_t fd, const struct dsp_settings *settings) {
     struct dsp_slot slot = {DSP_SLOT_FREE, 0};
     bool has_volume = settings->way != DSP_RECORD;
@@ -121,7 +121,7 @@ static bool is_wait(struct dsp_engine *engine, const struct call *call, int64_t 
     return number < 0 ? fewer == number : fewer >= 0 && fewer <= number && (number > 0 || call->numbers[UNTIL] == 0 || is_ready);
 }
 
-/* Whether the numbers of an answer are those that a question told. */
+/* Whether the numbers of an answer are those that a question answered. */
 static bool are_answered(uint32_t question, const struct dsp_answer *answer, const union report *report) {
     switch (question) {
     case ASK_SPACE:
@@ -136,7 +136,7 @@ static bool are_answered(uint32_t question, const struct dsp_answer *answer, con
     }
 }
 
-/* Space, position, delay and errors are what their requests would be told. */
+/* Space, position, delay and errors are what their requests would answer. */
 static bool is_request(struct dsp_engine *engine, const struct call *call, int64_t number, const union report *report) {
     static const enum dsp_request requests[QUESTIONS][2] = {
         [ASK_SPACE] = {DSP_GETOSPACE, DSP_GETISPACE},

@@ -4,7 +4,7 @@
 
 #include "call.h"
 
-/* What a question is told beside its number; dsp_engine_peek has an answer as the requests have. */
+/* What a question answers beside its number; dsp_engine_peek has an answer as the requests have. */
 union report {
     struct dsp_settings settings;
     struct dsp_slot slot;
@@ -16,16 +16,16 @@ union report {
     uint8_t bytes[64];
 };
 
-/* The bytes that a question writes where it is told something. */
+/* The bytes that a question writes where it answers something. */
 size_t report_size(uint32_t question);
 
-/* Whether two engines were told the same. What lies between the numbers of a struct doesn't count. */
+/* Whether two engines answered the same. What lies between the numbers of a struct doesn't count. */
 bool is_report_alike(uint32_t question, const union report *one, const union report *other);
 
-/* Asks a question. What a null pointer is given for isn't told; answer is that of dsp_engine_peek. */
+/* Asks a question. What a null pointer is given for isn't answered; answer is that of dsp_engine_peek. */
 int64_t ask_question(struct dsp_engine *engine, const struct call *call, union report *report, struct dsp_answer *answer);
 
-/* Whether an engine tells the same in other words: settings by requests, slots by descriptors, and so on. */
+/* Whether an engine answers the same in other words: settings by requests, slots by descriptors, and so on. */
 bool is_told_otherwise(struct dsp_engine *engine, const struct dsp_device *device, const struct call *call, int64_t number,
                        const union report *report);
 

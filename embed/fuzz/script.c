@@ -209,7 +209,7 @@ static void put_answer(FILE *to, enum told told, const struct dsp_answer *answer
     }
 }
 
-/* What is told of a call that was accepted, behind `ok`. */
+/* The reply to a call that was accepted, after `ok`. */
 static void put_accepted(struct script *script, const struct call *call, const struct got *got) {
     FILE *to = script->replies;
     switch (call->kind) {
@@ -260,7 +260,7 @@ void put_call(struct script *script, const struct call *call, int64_t number, co
     putc('\n', script->replies);
 }
 
-/* Whether two files of the folder have the same bytes. Tells the first line that differs. */
+/* Whether two files of the folder have the same bytes. Prints the first line that differs. */
 static bool are_alike(const char *one, const char *other) {
     FILE *files[] = {file_of(one, "rb"), file_of(other, "rb")};
     unsigned long at = 0, line = 1;

@@ -50,7 +50,7 @@ static void take_device(struct input *input, struct dsp_device *device) {
     device->quality = take_byte(input) % 5;
 }
 
-/* A number of so many that are at most so far from 0, or now and then of one more. */
+/* A number that is at most this far from 0, or now and then one further. */
 static int32_t take_coef(struct input *input, int32_t most) {
     uint32_t kind = take_byte(input);
     int32_t small = (int32_t)kind - 128;

@@ -8,7 +8,7 @@ enum counted { COUNT_SEQUENCES, COUNT_CALLS, COUNT_ACCEPTED, COUNT_REFUSED, COUN
 
 void count_one(enum counted counted);
 
-/* Counts a call or a question by its answer, and tells libFuzzer which kind of it was answered so. */
+/* Counts a call or a question by its answer, and reports to libFuzzer which kind of it was answered so. */
 void count_call(const struct call *call, int64_t number);
 
 /* Prints all counts, by their names, on the error output. */

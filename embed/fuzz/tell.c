@@ -1,4 +1,4 @@
-/* Tells the calls of an input as a program in C: tell INPUT */
+/* Prints the calls of an input as a program in C: tell INPUT */
 #include <stdio.h>
 
 #include "told.h"

@@ -1,4 +1,4 @@
-/* How calls are told as a program in C. */
+/* How calls are printed as a program in C. */
 #include "told.h"
 
 #include <inttypes.h>
@@ -13,7 +13,7 @@ static const char *const requests[] = {
 };
 static const char *const mixer_requests[] = {"DSP_SET_MASTER", "DSP_GET_MASTER", "DSP_SET_SLOT", "DSP_GET_SLOT", "DSP_MUTE_SLOT"};
 
-/* What stands in front of the calls: buffers, what calls bring, and what is told of each. */
+/* What stands in front of the calls: buffers, what calls bring, and what is printed of each. */
 static const char head[] =
     "/* The calls of an input of scripts/fuzz-calls: cc -Iembed calls.c bin/libdsp_engine.a */\n"
     "#include <stdio.h>\n"

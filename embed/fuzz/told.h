@@ -1,4 +1,4 @@
-/* Tells a setup and calls as a program in C. */
+/* Prints a setup and calls as a program in C. */
 #ifndef FUZZ_TOLD_H
 #define FUZZ_TOLD_H
 

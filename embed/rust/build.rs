@@ -1,4 +1,4 @@
-//! Finds the installed library: in the folder that DSP_ENGINE_LIB_DIR names, else in the one that dsp_engine.pc tells, else where the linker looks.
+//! Finds the installed library: in the folder that DSP_ENGINE_LIB_DIR names, else in the one that dsp_engine.pc names, else where the linker looks.
 //!
 //! The archive is linked where it is there, unless DSP_ENGINE_SHARED is set; else the shared library.
 
@@ -6,7 +6,7 @@ use std::env;
 use std::fs;
 use std::path::{Path, PathBuf};
 
-/// Where pkg-config looks, behind the folders of its own variable.
+/// Where pkg-config looks, after the folders of its own variable.
 const PKG_CONFIG_FOLDERS: [&str; 5] = [
     "/usr/local/lib/pkgconfig",
     "/usr/local/share/pkgconfig",
@@ -36,7 +36,7 @@ fn kind_in(folder: Option<&Path>) -> &'static str {
     }
 }
 
-/// The folder of the library that the first dsp_engine.pc tells.
+/// The folder of the library that the first dsp_engine.pc names.
 fn told_by_pkg_config() -> Option<PathBuf> {
     let named = env::var_os("PKG_CONFIG_PATH").unwrap_or_default();
     let folders = env::split_paths(&named).chain(PKG_CONFIG_FOLDERS.iter().map(PathBuf::from));

@@ -8,7 +8,7 @@
         handed = engine.interrupt(256)
 
 It needs the shared library, which is looked for at the path in DSP_ENGINE_LIBRARY, then beside this package, then where the system keeps
-libraries. docs/EMBEDDING.md tells what the library is, and docs/SCRIPTS.md what each call means.
+libraries. docs/EMBEDDING.md says what the library is, and docs/SCRIPTS.md what each call means.
 """
 from .engine import Engine
 from .numbers import (

@@ -113,7 +113,7 @@ class Engine:
         self._call("poke", fits(descriptor, "descriptor"), fits(offset, "offset"), content, len(content))
 
     def read(self, descriptor: int, length: int = READ_MOST) -> bytes:
-        """Reads at most so many bytes, and never more than 4096, of what a descriptor has recorded."""
+        """Reads at most `length` bytes, and never more than 4096, of what a descriptor has recorded."""
         room = ctypes.create_string_buffer(min(fits(length, "length"), READ_MOST))
         count = self._call("read", fits(descriptor, "descriptor"), room, len(room))
         return room.raw[:count]
@@ -125,7 +125,7 @@ class Engine:
         return Answer(answer.first, answer.second, answer.third, answer.fourth)
 
     def set_format(self, descriptor: int, format: Format) -> Format:
-        """Sets the format, and tells it."""
+        """Sets the format, and returns it."""
         return Format(self.ioctl(descriptor, Request.SETFMT, format).first)
 
     def format(self, descriptor: int) -> Format:
@@ -133,7 +133,7 @@ class Engine:
         return Format(self.ioctl(descriptor, Request.SETFMT).first)
 
     def set_rate(self, descriptor: int, rate: int) -> int:
-        """Sets the frames per second, and tells them."""
+        """Sets the frames per second, and returns them."""
         return self.ioctl(descriptor, Request.SPEED, rate).first
 
     def rate(self, descriptor: int) -> int:
@@ -141,7 +141,7 @@ class Engine:
         return self.ioctl(descriptor, Request.SPEED).first
 
     def set_channels(self, descriptor: int, channels: int) -> int:
-        """Sets the number of channels, and tells it."""
+        """Sets the number of channels, and returns it."""
         return self.ioctl(descriptor, Request.CHANNELS, channels).first
 
     def channels(self, descriptor: int) -> int:
@@ -162,7 +162,7 @@ class Engine:
         return self.ioctl(descriptor, Request.GETBLKSIZE).first
 
     def set_fragments(self, descriptor: int, number: int, power: int) -> Fragments:
-        """Cuts the ring into so many fragments of 2 ** power bytes, 0 for as many as fit. Answers what it is cut into."""
+        """Cuts the ring into `number` fragments of 2 ** power bytes, 0 for as many as fit. Answers what it is cut into."""
         if not (0 <= number < 1 << 15 and 0 <= power < 1 << 16):
             raise ValueError(f"fragments {number}, {power} are not 0 to 32767 of 0 to 65535")
         answered = self.ioctl(descriptor, Request.SETFRAGMENT, number << 16 | power).first
@@ -201,7 +201,7 @@ class Engine:
         return Trigger(self.ioctl(descriptor, Request.GETTRIGGER).first)
 
     def set_volume(self, descriptor: int, volume: Tuple[int, int]) -> Volume:
-        """Sets the volume of both sides, 0 to 100 each, and tells it."""
+        """Sets the volume of both sides, 0 to 100 each, and returns it."""
         return volume_of(self.ioctl(descriptor, Request.SETPLAYVOL, volume_number(volume)).first)
 
     def volume(self, descriptor: int) -> Volume:
@@ -241,7 +241,7 @@ class Engine:
         return Answer(answer.first, answer.second, answer.third, answer.fourth)
 
     def set_master(self, volume: Tuple[int, int]) -> Volume:
-        """Sets the volume of all that is mixed, and tells it."""
+        """Sets the volume of all that is mixed, and returns it."""
         return volume_of(self.mixer(MixerRequest.SET_MASTER, 0, volume_number(volume)).first)
 
     def master(self) -> Volume:
@@ -249,7 +249,7 @@ class Engine:
         return volume_of(self.mixer(MixerRequest.GET_MASTER).first)
 
     def set_slot(self, slot: int, volume: Tuple[int, int]) -> Volume:
-        """Sets the volume of what is heard of a slot, and tells it."""
+        """Sets the volume of what is heard of a slot, and returns it."""
         return volume_of(self.mixer(MixerRequest.SET_SLOT, slot, volume_number(volume)).first)
 
     def slot(self, slot: int) -> Volume:
@@ -261,8 +261,8 @@ class Engine:
         self.mixer(MixerRequest.MUTE_SLOT, slot, int(is_muted))
 
     def interrupt(self, frames: int, samples: Iterable[int] = ()) -> bytes:
-        """The device takes so many frames. Answers their bytes. With them come the samples that the device captured, of 32 bits, as many as it
-        has channels for each frame; where there are fewer, silence follows."""
+        """The device takes `frames` frames. Answers their bytes. With them come the samples that the device captured, of 32 bits, as many as
+        it has channels for each frame; where there are fewer, silence follows."""
         captured = samples_of(samples)
         room = ctypes.create_string_buffer(self._room_for(fits(frames, "frames")))
         place = (ctypes.c_int32 * len(captured)).from_buffer(captured) if captured else None
@@ -270,13 +270,13 @@ class Engine:
         return room.raw[:count]
 
     def discard(self, frames: int, samples: Iterable[int] = ()) -> int:
-        """The device takes so many frames, as by `interrupt`, and nobody hears them. Answers how many bytes these are."""
+        """The device takes `frames` frames, as by `interrupt`, and nobody hears them. Answers how many bytes these are."""
         captured = samples_of(samples)
         place = (ctypes.c_int32 * len(captured)).from_buffer(captured) if captured else None
         return self._call("interrupt", fits(frames, "frames"), place, len(captured), None, 0)
 
     def _room_for(self, frames: int) -> int:
-        """The bytes of so many frames, if the device can hand them over at once."""
+        """The bytes of `frames` frames, if the device can hand them over at once."""
         return frames * self._frame_bytes if frames <= self._device.ring_frames else 0
 
     # ---- questions: none is a step, and none changes anything
@@ -300,13 +300,13 @@ class Engine:
         )
 
     def peek(self, descriptor: int, request: Request, argument: int = 0) -> Answer:
-        """What `ioctl` would answer now. Nothing is done: no position and no shortage counts as told."""
+        """What `ioctl` would answer now. Nothing is done: no position and no shortage counts as answered."""
         answer = AnswerStruct()
         self._call("peek", fits(descriptor, "descriptor"), fits(request, "request"), fits(argument, "argument"), answer)
         return Answer(answer.first, answer.second, answer.third, answer.fourth)
 
     def slot_status(self, way: Way, number: int) -> Slot:
-        """How a slot of a way is, by the number that openings are told."""
+        """How a slot of a way is, by the number that `open` answers."""
         told = SlotStruct()
         self._call("slot", fits(way, "way"), fits(number, "number"), told)
         return Slot(SlotState(told.state), told.frames)
@@ -323,5 +323,5 @@ class Engine:
         return Ready(*(frozenset(fd for fd in range(64) if bits.value >> fd & 1) for bits in (writable, readable)))
 
     def frames_until(self, descriptor: int, length: int) -> int:
-        """After how many frames that interrupts take a write of so many bytes fits whole, or so many can be read, if nothing else happens."""
+        """After how many frames that interrupts take a write of `length` bytes fits whole, or as many can be read, if nothing else happens."""
         return self._call("frames_until", fits(descriptor, "descriptor"), fits(length, "length"))

@@ -151,7 +151,7 @@ class Errors(NamedTuple):
 
 
 class Fragments(NamedTuple):
-    """How a ring is cut: so many fragments of 2 ** power bytes."""
+    """How a ring is cut: `number` fragments of 2 ** power bytes."""
 
     number: int
     power: int

@@ -29,13 +29,13 @@ pub struct Space {
 pub struct Position {
     /// Bytes that it has played or recorded.
     pub bytes: u64,
-    /// Fragments passed since it was told last.
+    /// Fragments passed since the last answer.
     pub blocks: u64,
     /// The place in its ring.
     pub place: u64,
 }
 
-/// Shortages since they were told last.
+/// Shortages since the last answer.
 #[derive(Clone, Copy, Debug, PartialEq, Eq)]
 #[allow(missing_docs)]
 pub struct Errors {

@@ -17,7 +17,7 @@ pub struct Device {
     pub mix_channels: u32,
     /// Frames per second of the mix; 0: as the device.
     pub mix_rate: u32,
-    /// Frames of the device's ring, 1 to 262144: what is mixed is handed over so many frames later.
+    /// Frames of the device's ring, 1 to 262144: what is mixed is handed over that many frames later.
     pub ring_frames: u32,
     /// How many clients can play at once. With those that are mapped at most 16.
     pub play_slots: u32,

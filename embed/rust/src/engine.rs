@@ -24,7 +24,7 @@ impl Engine {
         }
         let (filters, coefs) = numbers_of(filters);
         let mut handle = raw::Handle { there: false, at: std::ptr::null_mut() };
-        // SAFETY: each pointer has as many elements as are told, and the handle is none.
+        // SAFETY: each pointer has as many elements as are given, and the handle is none.
         accepted(unsafe {
             raw::dsp_engine_new(
                 &mut handle,
@@ -55,13 +55,13 @@ impl Engine {
 
     /// Writes bytes to a descriptor that plays. Answers how many of them its ring took: the first ones.
     pub fn write(&mut self, fd: u32, bytes: &[u8]) -> Result<usize, Refusal> {
-        // SAFETY: so many bytes stand there.
+        // SAFETY: as many bytes stand there.
         accepted(unsafe { raw::dsp_engine_write(&mut self.handle, fd, bytes.as_ptr(), bytes.len()) }).map(|it| it as usize)
     }
 
     /// Writes bytes into the area of a mapped descriptor, from its byte `offset` on.
     pub fn poke(&mut self, fd: u32, offset: u32, bytes: &[u8]) -> Result<(), Refusal> {
-        // SAFETY: so many bytes stand there.
+        // SAFETY: as many bytes stand there.
         accepted(unsafe { raw::dsp_engine_poke(&mut self.handle, fd, offset, bytes.as_ptr(), bytes.len()) }).map(|_| ())
     }
 
@@ -165,7 +165,7 @@ impl Engine {
         self.ioctl(fd, Request::GetODelay, 0).map(|it| it.first)
     }
 
-    /// Shortages since they were told last.
+    /// Shortages since the last answer.
     pub fn errors(&mut self, fd: u32) -> Result<Errors, Refusal> {
         self.asked(fd, Request::GetError)
     }
@@ -258,19 +258,19 @@ impl Engine {
         self.mixer(MixerRequest::MuteSlot, slot, u32::from(is_muted)).map(|_| ())
     }
 
-    /// The device takes so many frames, 1 to those of its ring: their bytes, at the front of `out`. With them come the samples that it captured
-    /// meanwhile, of 32 bits, as many as it has channels for each frame; where there are fewer, silence follows.
+    /// The device takes `frames` frames, 1 to those of its ring: their bytes, at the front of `out`. With them come the samples that it
+    /// captured meanwhile, of 32 bits, as many as it has channels for each frame; where there are fewer, silence follows.
     pub fn interrupt<'a>(&mut self, frames: u32, samples: &[i32], out: &'a mut [u8]) -> Result<&'a mut [u8], Refusal> {
-        // SAFETY: so many samples stand there, and there is so much room.
+        // SAFETY: as many samples stand there, and there is as much room.
         let count = accepted(unsafe {
             raw::dsp_engine_interrupt(&mut self.handle, frames, samples.as_ptr(), samples.len(), out.as_mut_ptr(), out.len())
         })?;
         Ok(&mut out[..count as usize])
     }
 
-    /// The device takes so many frames, as by `interrupt`, and nobody hears them. Answers how many bytes these are.
+    /// The device takes `frames` frames, as by `interrupt`, and nobody hears them. Answers how many bytes these are.
     pub fn discard(&mut self, frames: u32, samples: &[i32]) -> Result<usize, Refusal> {
-        // SAFETY: so many samples stand there, and a null room of no bytes has what is handed over let go.
+        // SAFETY: as many samples stand there, and a null room of no bytes has what is handed over let go.
         let count = accepted(unsafe {
             raw::dsp_engine_interrupt(&mut self.handle, frames, samples.as_ptr(), samples.len(), std::ptr::null_mut(), 0)
         })?;
@@ -291,7 +291,7 @@ impl Engine {
         Ok(Settings::from(told))
     }
 
-    /// What `ioctl` would answer now: no position and no shortage counts as told by it.
+    /// What `ioctl` would answer now: no position and no shortage counts as answered by it.
     pub fn peek(&mut self, fd: u32, request: Request, argument: u32) -> Result<Answer, Refusal> {
         let mut answer = Answer::default();
         // SAFETY: see `open`.
@@ -299,7 +299,7 @@ impl Engine {
         Ok(answer)
     }
 
-    /// How a slot of a way is, by the number that openings are told.
+    /// How a slot of a way is, by the number that `open` answers.
     pub fn slot_status(&mut self, way: Way, number: u32) -> Result<Slot, Refusal> {
         let mut told = raw::SlotNumbers::default();
         // SAFETY: see `open`.
@@ -321,7 +321,7 @@ impl Engine {
         ready
     }
 
-    /// After how many frames that interrupts take a write of so many bytes fits whole, or so many can be read, if nothing else happens.
+    /// After how many frames that interrupts take a write of `bytes` bytes fits whole, or as many can be read, if nothing else happens.
     pub fn frames_until(&mut self, fd: u32, bytes: u32) -> Result<u64, Refusal> {
         // SAFETY: see `open`.
         let frames = unsafe { raw::dsp_engine_frames_until(&mut self.handle, fd, bytes) };
@@ -331,7 +331,7 @@ impl Engine {
 
 impl Drop for Engine {
     fn drop(&mut self) {
-        // SAFETY: see `open`. There is no engine behind it, and nobody to ask.
+        // SAFETY: see `open`. There is no engine after it, and nobody to ask.
         unsafe { raw::dsp_engine_free(&mut self.handle) }
     }
 }

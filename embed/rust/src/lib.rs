@@ -14,7 +14,7 @@
 //! # }
 //! ```
 //!
-//! It calls the library `libdsp_engine`, which the build looks for. `docs/EMBEDDING.md` tells what that is, and `docs/SCRIPTS.md` what each
+//! It calls the library `libdsp_engine`, which the build looks for. `docs/EMBEDDING.md` says what that is, and `docs/SCRIPTS.md` what each
 //! call means.
 #![deny(missing_docs)]
 #![deny(unsafe_op_in_unsafe_fn)]
