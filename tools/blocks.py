@@ -28,7 +28,7 @@ class Blocks:
                 self.highs[at].extend(highs)
 
     def extremes(self, begin, end):
-        """The least and the greatest sample of each channel among frames: of whole blocks, and of the frames before and behind them."""
+        """The least and the greatest sample of each channel among frames: of whole blocks, and of the frames before and after them."""
         first, frames, channels = -(-begin // BLOCK), self.sound.frames, self.sound.device.channels
         last = max(len(self.lows[0]) if end >= frames else end // BLOCK, first)
         found = [self.sound.looked_up(*it) for it in ((begin, min(first * BLOCK, end)), (last * BLOCK, end)) if it[0] < it[1]]
@@ -47,7 +47,7 @@ def one_by_one(plane):
 
 def side_by_side(plane):
     """The same of a part of 16 bits, whose blocks are all looked at together, as the digits of large numbers: those of every second block
-    in the upper halves of digits of 32 bits, the others in the lower ones; and the samples of a block one row of digits behind another."""
+    in the upper halves of digits of 32 bits, the others in the lower ones; and the samples of a block one row of digits after another."""
     rows = (plane[k::BLOCK] for k in range(BLOCK))
     count = len(plane) // 2
     both = int.from_bytes(b"".join(map(little, rows)), "little") ^ digits(0x80008000, count)
@@ -56,7 +56,7 @@ def side_by_side(plane):
 
 
 def folded(samples, count):
-    """The least and the greatest sample of each block, out of so many digits: half of them are laid upon the others, until one row is left."""
+    """The least and the greatest sample of each block, out of `count` digits: half of them are laid upon the others, until one row is left."""
     count //= 2
     low, high = sorted_pairs(samples, count)
     while count > PART // BLOCK // 2:
@@ -66,7 +66,7 @@ def folded(samples, count):
 
 
 def sorted_pairs(number, count):
-    """The lesser and the greater ones of the digits of both halves of a number, of so many digits each."""
+    """The lesser and the greater ones of the digits of both halves of a number, of `count` digits each."""
     one, other = number & (1 << 32 * count) - 1, number >> 32 * count
     by = excess(one, other, count)
     return one - by, other + by

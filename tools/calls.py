@@ -15,9 +15,9 @@ RING = 1024
 # the formats that a wave can have, by their bytes
 FORMATS = {1: "u8", 2: "s16le", 3: "s24le", 4: "s32le"}
 WIDTHS = {name: width for width, name in FORMATS.items()}
-# the codings of a wave, by their numbers, that are no whole numbers; and the one that tells its coding further on
+# the codings of a wave, by their numbers, that are no whole numbers; and the one that states its coding further on
 CODINGS, INTEGER, EXTENSIBLE = {2: "ADPCM", 3: "floats", 6: "A-law", 7: "mu-law", 85: "MP3"}, 1, 0xFFFE
-# how often it is looked how far a run is, in seconds; and how many bytes are read of what a fault is told by
+# how often it is looked how far a run is, in seconds; and how many bytes are read of what reports a fault
 LOOK, MOST_SAID = 0.1, 2000
 # the status of a program that couldn't write; and what a status means of which nothing is said
 UNWRITTEN, SILENT = 7, {7: "no room for what it writes", 8: "out of memory"}
@@ -53,7 +53,7 @@ def call_into(printed, program, *words, out=None, size=0, does="the program runs
 
 
 def wait_for(ran, progress, out, size):
-    """Waits for a program to end, while it is told how much it has written."""
+    """Waits for a program to end, and shows how much it has written."""
     while True:
         try:
             return ran.wait(timeout=LOOK)
@@ -66,7 +66,7 @@ def judge(status, printed, errors):
     if status < 0:
         fail(f"the program was stopped by signal {-status}")
     if status:
-        # what was printed is cut where there is no room, and tells no reason
+        # what was printed is cut where there is no room, and says no reason
         lines = [printed.strip().split("\n")[-1] if status != UNWRITTEN else "", errors]
         said = ": ".join(filter(None, (it.strip().replace("dsp_replay: ", "", 1) for it in lines)))
         fail(f"the program ended with {status}: {said or SILENT.get(status, 'it says nothing')}")
@@ -77,7 +77,7 @@ def number(data, at, size):
 
 
 def look_at_form(path, body):
-    """The settings that a wave's header tells, or a fault where its samples are no whole numbers."""
+    """The settings that a wave's header states, or a fault where its samples are no whole numbers."""
     coding, bits = number(body, 0, 2), number(body, 14, 2)
     coding = number(body, 24, 2) if coding == EXTENSIBLE else coding
     form = FORMATS.get(bits // 8) if bits % 8 == 0 else None
@@ -107,7 +107,7 @@ def wave_of(path):
 
 
 def wave_head(form, channels, rate, size, more=0):
-    """The header of a wave whose body has so many bytes, and more behind it."""
+    """The header of a wave whose body has `size` bytes, with `more` bytes after it."""
     frame = channels * WIDTHS[form]
     settings = b"".join(value.to_bytes(size, "little") for value, size in (
         (16, 4), (1, 2), (channels, 2), (rate, 4), (rate * frame, 4), (frame, 2), (8 * WIDTHS[form], 2)))
@@ -137,7 +137,7 @@ def text_of(path):
 
 @contextlib.contextmanager
 def writing(path):
-    """A file to write bytes into, or standard output. What goes wrong with a file is told by its name."""
+    """A file to write bytes into, or standard output. What goes wrong with a file is said by its name."""
     if str(path) == "-":
         yield sys.stdout.buffer
         sys.stdout.buffer.flush()

@@ -16,7 +16,7 @@ from sums import given_by, limits_of, solos_of
 Known = collections.namedtuple("Known", "solos given clipped limits")
 # a place: its frame, what happens there, how large that is, and, once it is known, why
 Click = collections.namedtuple("Click", "at does size why")
-# the frames among which one that jumps stands out, of which every so many are looked at for their mean, how many times that, and which part
+# the frames among which one that jumps stands out, one of how many is looked at for the mean, how many times that, and which part
 # of full scale it is at least
 BLOCK, EVERY, TIMES, PART_OF = 1024, 8, 8, 256
 # the frames that are looked at in one go; those of a block that is silent or isn't; and of a silence at least
@@ -98,7 +98,7 @@ def silences(out, total):
 
 
 class Clicks:
-    """The places of a script at which it clicks, with what the clients give and are told there."""
+    """The places of a script at which it clicks, with what the clients give and are answered there."""
 
     def __init__(self, played, most, known):
         self.played, self.ring = played, played.device.ring
@@ -107,7 +107,7 @@ class Clicks:
         self.places, self.told = self.found(most), {}
 
     def ask(self):
-        """Asks what the clients are told around the places."""
+        """Asks what the clients are answered around the places."""
         frames = [it.at - self.ring for it in self.places]
         self.told = {slot: around(it, frames, it.told((), cuts_at(self.played, frames))) for slot, it in self.solos.items()} if frames else {}
 
@@ -159,7 +159,7 @@ class Clicks:
 
 def line_that(clicks, slot, frame):
     """The line right before a frame that sets a volume or a mute, or halts a client, and what that is; of the master where no slot is
-    told; or None."""
+    given; or None."""
     played, own = clicks.played, {at for it in clicks.solos[slot].openings for at in it.events} if slot is not None else ()
     for at in reversed([it for it in clicks.lines_before(frame) if it >= 0 and played.replies[it].startswith("ok")]):
         words, text = played.script.words(at), played.script.named(at)
@@ -207,7 +207,7 @@ def why(clicks, it):
 
 
 def why_limited(clicks, frame, slot, count):
-    """Which limit a place has, for so many frames."""
+    """Which limit a place has, for `count` frames."""
     if slot is not None:
         found = clicks.told[slot].get(frame)
         whose = f": {frame_of(clicks, slot, found.reached, frame)}" if found and found.reached else ""

@@ -1,4 +1,4 @@
-"""What the clients of a slot give and are told: the script is run with them alone, and questions stand between its lines."""
+"""What the clients of a slot give and are answered: the script is run with them alone, and questions stand between its lines."""
 import array
 import collections
 import copy
@@ -9,7 +9,7 @@ from sounds import Device, size_of
 
 CODES = {0x40: "s8", 8: "u8", 0x10: "s16le", 0x20: "s16be", 0x80: "u16le", 0x100: "u16be", 0x10000: "s24le", 0x20000: "s24be",
          0x40000: "u24le", 0x80000: "u24be", 0x1000: "s32le", 0x2000: "s32be", 0x4000: "u32le", 0x8000: "u32be"}
-# what an opening is told behind an event: how many frames were handed over by then, the bytes that wait in its ring, the size of that,
+# what an opening is answered after an event: how many frames were handed over by then, the bytes that wait in its ring, the size of that,
 # whether it is in Setup, whether it has started, how often it was short or lost frames, its position in bytes, and its settings
 Moment = collections.namedtuple("Moment", "event at waiting size setup started missed passed settings")
 # what is asked of an opening, by its way, and of each
@@ -17,12 +17,12 @@ QUESTIONS = {"play": ("getospace", "getodelay", "getoptr"), "map": ("getoptr",),
 OF_ALL = ("geterror", "setfmt 0", "channels 0", "speed 0")
 # the descriptors that a script can have
 DESCRIPTORS = 64
-# up to so many places are asked at once; into so many columns the frames are cut to choose them; and so often it is looked closer, where
-# something happens between so many of them at most
+# how many places are asked at once; how many columns the frames are cut into to choose them; how often it is looked
+# closer; and between how many of them something may happen for that
 MOST, COLUMNS, TIMES, SPANS = 3000, 1000, 5, 200
-# so many lines a place has at most, its questions and interrupts, where a script is full of events
+# how many lines a place has at most, its questions and interrupts, where a script is full of events
 QUESTIONED, SPARE = 11, 64
-# in so many pieces an interrupt is cut at once
+# how many pieces an interrupt is cut into at once
 PIECES = 32
 
 
@@ -104,8 +104,8 @@ class Solo:
 
     def lines(self, places=(), cuts=None, counts=None, ring=None, is_heard=True):
         """The lines that are run, and by the numbers of those that are questions whom, where and what each asks. Interrupts are joined
-        up to a place or a line of the clients; a cut one has a place before it and behind each of its pieces. Where nothing is to be
-        heard it ends behind the last place."""
+        up to a place or a line of the clients; a cut one has a place before it and after each of its pieces. Where nothing is to be
+        heard it ends after the last place."""
         cuts, ring, turns = cuts or {}, ring or self.played.device.ring, iter(counts or self.played.counts)
         waits, now, lines, keys, begins = 0, -1, self.muted(), {}, {it.at for it in self.openings}
         special, last = {*places, *cuts, *begins}, None if is_heard else max([*places, *cuts], default=-1)
@@ -130,7 +130,7 @@ class Solo:
         return lines + turned(waits, ring), keys
 
     def ask(self, lines, keys, at, now, pieces):
-        """Adds the questions at a place, or behind each piece of a cut interrupt."""
+        """Adds the questions at a place, or after each piece of a cut interrupt."""
         for piece, part in enumerate(pieces):
             lines.extend(turned(part, part))
             for question, text in self.questions(at, now):
@@ -158,7 +158,7 @@ class Solo:
         return [f"close {self.openings[now].descriptor if self.free is None else self.free}"]
 
     def rates(self, at, now):
-        """The rate of a client behind an event."""
+        """The rate of a client after an event."""
         if now not in self.changes:
             opening, replies = self.openings[now], self.played.replies
             words = self.script.words(opening.at)
@@ -190,7 +190,7 @@ class Solo:
         return sound.from_frame(device.ring)
 
     def told(self, places, cuts=None):
-        """What each client is told at places, in their order."""
+        """What each client is answered at places, in their order."""
         every, sound = self.told_and_heard(places, cuts, False)
         self.played.room.forget(sound)
         return every
@@ -209,13 +209,13 @@ class Solo:
         return [until_gone(it, moments) for it, moments in zip(self.openings, every)], sound
 
     def place_of(self, at, piece, cuts):
-        """How many frames are handed over behind an event, or a piece of one."""
+        """How many frames are handed over after an event, or a piece of one."""
         if cuts and at in cuts:
             return self.played.handed(at) + sum(cuts[at][:piece])
         return self.played.handed(at + 1)
 
     def moment(self, event, at, answers):
-        """What an opening is told behind an event."""
+        """What an opening is answered after an event."""
         room, kept = numbers_in(answers.get("getospace", "")), numbers_in(answers.get("getispace", ""))
         size = (room or kept).get("fragstotal", 0) * (room or kept).get("fragsize", 0)
         waiting = size - room["bytes"] if room else kept.get("bytes", 0)
@@ -226,7 +226,7 @@ class Solo:
         return Moment(event, at, waiting, size, setup, not setup and delay > waiting, sum(numbers_in(answers["geterror"]).values()), passed, settings)
 
     def candidates(self):
-        """Where the clients can be asked: behind their own events, behind interrupts once one has opened, and behind starts of groups."""
+        """Where the clients can be asked: after their own events, after interrupts once one has opened, and after starts of groups."""
         script, played, first = self.script, self.played, self.openings[0].at
         last = self.openings[-1].closed if self.openings[-1].closed is not None and self.way != "play" else len(script.events)
         own = (at for it in self.openings for at in it.events)
@@ -234,7 +234,7 @@ class Solo:
         return [at for at in sorted({*own, *played.turns, *starts}) if first <= at <= last]
 
     def moments_and_sound(self, window=None):
-        """What each client is told, as closely as something happens, and most closely in a window of frames; and the frames of OUT."""
+        """What each client is answered, as closely as something happens, and most closely in a window of frames; and the frames of OUT."""
         every, room = self.candidates(), max((EVENTS - len(self.steps()[0]) - SPARE) // QUESTIONED, 1)
         places = thinned(self.played, self.script, every, min(MOST, room), window)
         found, sound = self.told_and_heard(places)
@@ -248,12 +248,12 @@ class Solo:
 
 
 def turned(count, ring):
-    """The interrupts of so many frames."""
+    """The interrupts of `count` frames."""
     return [f"intr {count}"] if 0 < count <= ring else [f"intr {it}" for it in parts_of(count, max(ring, 1))]
 
 
 def until_gone(opening, moments):
-    """What an opening is told until it is closed and nothing is left of it."""
+    """What an opening is answered until it is closed and nothing is left of it."""
     for at, it in enumerate(moments):
         if opening.closed is not None and it.event >= opening.closed and it.setup:
             return moments[:at + 1]
@@ -276,7 +276,7 @@ def thinned(played, script, every, most, window):
 
 
 def closer(found, every, places, most):
-    """The places between two at which something other is told, as many as can be asked at once."""
+    """The places between two at which the answers differ, as many as can be asked at once."""
     spans = [(a.event, b.event) for moments in found for a, b in zip(moments, moments[1:]) if has_changed(a, b)]
     more, at = [], 0
     for begin, end in spans if len(spans) <= SPANS else ():
@@ -311,7 +311,7 @@ def first_missing(solo, which, short):
 
 
 def cut(count, begin, end):
-    """So many frames as what is before some of them, these in pieces, and what is behind."""
+    """`count` frames as what is before some of them, these in pieces, and what is after them."""
     return [it for it in (begin, *parts_of(end - begin, -(-(end - begin) // PIECES)), count - end) if it]
 
 

@@ -1,6 +1,6 @@
 """What every tool is as a command: its words, its faults, how far it is, and how it ends.
 
-The status is 0, 2 of wrong words, 130 behind Ctrl-C, 141 where nobody reads on, and of any other fault 1 or what the tool says.
+The status is 0, 2 of wrong words, 130 after Ctrl-C, 141 where nobody reads on, and of any other fault 1 or what the tool says.
 A fault is one line on standard error. Every tool has --help, --version and --program.
 """
 import collections
@@ -35,7 +35,7 @@ def stop(number, _):
     sys.exit(128 + number)
 
 
-# what ends a tool lets it clear up first, unless whoever called it wants that ignored
+# what ends a tool lets it clear up first, unless its caller wants that ignored
 for ends in (signal.SIGINT, signal.SIGTERM, signal.SIGHUP):
     if signal.getsignal(ends) is not signal.SIG_IGN:
         signal.signal(ends, stop)
@@ -46,7 +46,7 @@ def name():
 
 
 def say(text):
-    """Prints a line on standard error, if somebody is there to read it. What would end the line is told by its number."""
+    """Prints a line on standard error, if somebody is there to read it. What would end the line is written by its number."""
     text = re.sub(r"[\x00-\x1f\x7f]", lambda it: f"\\x{ord(it[0]):02x}", str(text))
     try:
         print(f"{name()}: {text}", file=sys.stderr or open(os.devnull, "w", encoding="utf-8"), flush=True)
@@ -110,7 +110,7 @@ def value_of(option, kind, words):
 
 def read_words(words, options):
     """The words of a call. Each option has what reads its value, or None where it has no value. What begins
-    as a number does is no option, and behind `--` nothing is."""
+    as a number does is no option, and after `--` nothing is."""
     options, words, both = {**options, "--program": str}, list(words), []
     while words:
         word = words.pop(0)
@@ -135,7 +135,7 @@ def usage(doc):
 
 
 def version():
-    """The version that the changelog tells first, with a plus where changes stand above it."""
+    """The version that the changelog names first, with a plus where changes stand above it."""
     file = ROOT / "CHANGELOG.md"
     heads = re.findall(r"(?m)^## (\S+)", file.read_text(encoding="utf-8")) if file.is_file() else []
     found = next((it for it in heads if it[0].isdigit()), None)
@@ -193,13 +193,13 @@ def command(act, doc, options=None, faulty=1):
 
 
 class Progress:
-    """A line on standard error that tells how far something is, once it takes longer than a second and where that is a terminal."""
+    """A line on standard error that says how far something is, once it takes longer than a second and where that is a terminal."""
 
     def __init__(self, what):
         self.what, self.begun, self.told = what, time.monotonic(), 0
 
     def at(self, done, of):
-        """Tells that so much is done, if it is time to."""
+        """Says how much is done, if it is time to."""
         spent = time.monotonic() - self.begun
         if not sys.stderr or not sys.stderr.isatty() or spent < 1 or spent - self.told < 0.2:
             return
@@ -213,7 +213,7 @@ class Progress:
 
 
 def told(parts, what, total):
-    """Parts of a whole, each with where it begins and ends, while it is told how far they are."""
+    """Parts of a whole, each with where it begins and ends, while a line says how far they are."""
     progress = Progress(what)
     try:
         for begin, end in parts:

@@ -63,7 +63,7 @@ class Axis:
         return max(parts, key=lambda it: it[1] - it[0], default=(0, 0))
 
     def columns(self):
-        """The columns of a waveform: for each stretch the first frame of each, and the one behind the last."""
+        """The columns of a waveform: for each stretch the first frame of each, and the one after the last."""
         for begin, end, left, right in self.places:
             count = max(1, min(end - begin, (right - left) // COLUMN))
             yield [begin + (end - begin) * k // count for k in range(count + 1)]

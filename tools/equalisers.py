@@ -15,8 +15,8 @@ KINDS = {
     "highpass": ("Q",),
 }
 LIMITS = {"DB": (-120, 120), "SLOPE": (0.01, 1), "Q": (0.01, 1000)}
-TOLD = (20, 50, 100, 200, 500, 1000, 2000, 5000, 10000, 20000)  # the Hz of which the gain is told
-LEAST, STEP, FLOOR = 10, 2 ** (1 / 24), -60  # errors are looked for from so many Hz on, half a semitone each, down to so many dB
+TOLD = (20, 50, 100, 200, 500, 1000, 2000, 5000, 10000, 20000)  # the Hz of which the gain is printed
+LEAST, STEP, FLOOR = 10, 2 ** (1 / 24), -60  # errors are looked for from this many Hz on, half a semitone each, down to this many dB
 TINY = 1e-30  # in place of 0, which has no decibels
 
 # A section as it is asked for, its gain 0 where it has none; and by its numbers.
@@ -95,7 +95,7 @@ def greatest_error(rate, sections, got):
 
 
 def comments(rate, sections, whole):
-    """The lines that tell what the entries come to."""
+    """The lines that say what gain the entries have."""
     got = [Numbers(*(number / 2**shift for number in numbers)) for shift, numbers in whole]
     gains = ((round(decibels(got, it, rate), 2) + 0.0, it) for it in TOLD if it < rate / 2)
     yield f"# tools/equaliser {rate} {' '.join(map(words_of, sections))}"
@@ -142,7 +142,7 @@ def fault(rate, sections):
 
 
 def section_of(kind, *words):
-    """The section that a kind and the words behind it ask for."""
+    """The section that a kind and the words after it ask for."""
     try:
         hertz, *gain, width = map(float, words)
     except ValueError:

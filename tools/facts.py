@@ -1,4 +1,4 @@
-"""What the clients are told around some frames, each of which is mixed and handed over by a cut of its interrupt."""
+"""What the clients are answered around some frames, each of which is mixed and handed over by a cut of its interrupt."""
 import collections
 
 from scripts import BYTES, count_of, device_of, has_entries, keys_of, on_the_mix, rates_of, with_device
@@ -6,12 +6,12 @@ from sounds import joined, size_of
 
 # the least and the greatest sample of 32 bits, and how many frames are looked at in one go
 ENDS, CLOSE = (-(1 << 31), (1 << 31) - 1), 4096
-# what a client is told before the frame that is before one, behind that, before the one and behind it, each with its opening; or None
+# what a client is answered before the frame that is before one, after that, before the one and after it, each with its opening; or None
 Around = collections.namedtuple("Around", "before left reached behind")
 
 
 def cuts_at(played, frames):
-    """Interrupts by their events, each cut before and behind these frames and those before them."""
+    """Interrupts by their events, each cut before and after these frames and those before them."""
     edges = {}
     for at in frames:
         for frame in (at - 1, at):
@@ -35,7 +35,7 @@ def turn_event(played, frame):
 
 
 def around(solo, frames, every):
-    """What the client of a slot is told around each of some frames."""
+    """What the client of a slot is answered around each of some frames."""
     played = solo.played
     known = {(it.event, it.at): (opening, it) for opening, moments in zip(solo.openings, every) for it in moments}
     return {at: Around(*(known.get(it) for it in (
@@ -84,6 +84,6 @@ def clipped_rows(sound, begin, end):
 
 
 def lookahead(config):
-    """How many frames behind the one under an output are used, without a filter; or None with one."""
+    """How many frames after the one under an output are used, without a filter; or None with one."""
     quality = count_of(keys_of(config), "vchans.quality", "1")
     return None if quality > 1 and has_entries(config, "tables") else min(quality, 1)

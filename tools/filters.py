@@ -22,7 +22,7 @@ def decibels(taps, ratio):
 
 
 def kaiser_shape(stopped):
-    """Kaiser's b, for so many decibels: his formula, with its branch below 50."""
+    """Kaiser's b, for a number of decibels: his formula, with its branch below 50."""
     return 0.1102 * (stopped - 8.7) if stopped > 50 else 0.5842 * (stopped - 21) ** 0.4 + 0.07886 * (stopped - 21)
 
 
@@ -54,7 +54,7 @@ def greatest_shift(rows):
 
 
 def rounded(row, shift):
-    """A row as whole numbers with the sum 2 to the power of the shift: rounded down, and up where that leaves most behind."""
+    """A row as whole numbers with the sum 2 to the power of the shift: rounded down, and up where that leaves the greatest rest."""
     exact = [number * 2**shift for number in row]
     whole = [math.floor(number) for number in exact]
     rest = sorted(range(len(row)), key=lambda j: whole[j] - exact[j])

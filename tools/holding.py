@@ -60,7 +60,7 @@ def compile_into(folder, archive):
 
 
 def digest_of(archive):
-    """What tells these sources and this library from others."""
+    """What distinguishes these sources and this library from others."""
     told = hashlib.sha256(" ".join([*CFLAGS, *TAKEN]).encode())
     for it in sorted([*SOURCES.glob("*.[ch]"), *EMBED.glob("dsp_*.[ch]"), archive]):
         told.update(it.name.encode() + it.read_bytes())
@@ -139,7 +139,7 @@ def environment(client, path, pace):
 
 
 def status_of(words, env, printed):
-    """Runs a program to its end. Ctrl-C comes to it from the terminal, and what else ends this tool is handed on to it; behind it both end
+    """Runs a program to its end. Ctrl-C comes to it from the terminal, and what else ends this tool is passed on to it; after it both end
     this tool again."""
     before = {it: signal.getsignal(it) for it in (signal.SIGINT, signal.SIGTERM, signal.SIGHUP)}
     with subprocess.Popen(words, env=env, stdout=printed) as program:
@@ -153,7 +153,7 @@ def status_of(words, env, printed):
 
 
 def same(one, two, at=lambda done: None):
-    """Whether two streams have the same bytes, to the end of the first; both are read on, and it is told how far that is."""
+    """Whether two streams have the same bytes, to the end of the first; both are read on, and `at` gets how far that is."""
     is_so, done = True, 0
     while data := one.read(PART):
         is_so &= two.read(len(data)) == data

@@ -8,14 +8,14 @@ from scripts import keys_of, shortened, value_of
 from sounds import WIDTH
 
 # a row of writes that play as one: how many bytes of runs before it the position counts, the bytes of its frame, the events that wrote,
-# and how many bytes it had behind each
+# and how many bytes it had after each
 Run = collections.namedtuple("Run", "base size events ends")
-# the bytes of the area of a mapped channel behind its open
+# the bytes of the area of a mapped channel after its open
 AREA = 16384
 
 
 class Settings:
-    """The bytes of a frame of an opening, behind the events that were taken."""
+    """The bytes of a frame of an opening, after the events that were taken."""
 
     def __init__(self, words):
         self.form, self.channels = (words[3], int(words[4])) if len(words) > 4 else ("u8", 1)
@@ -34,7 +34,7 @@ class Settings:
 
 
 def drops_all(words):
-    """Whether an event is one that drops what waits and begins the position anew, where something was written."""
+    """Whether an event is one that drops what waits and begins the position again, where something was written."""
     return words[2:3] == ["halt"] or words[2:3] == ["settrigger"] and value_of(words[3]) < 2
 
 
@@ -62,7 +62,7 @@ class Written:
             self.ends_soon = self.is_open
 
     def write(self, at, count):
-        """Takes bytes that were accepted. Behind a drain they begin another run, as it refuses any."""
+        """Takes bytes that were accepted. After a drain they begin another run, as it refuses any."""
         if self.ends_soon:
             run = self.runs[-1]
             self.base, self.is_open, self.ends_soon = run.base + run.ends[-1] // run.size * run.size, False, False
@@ -97,7 +97,7 @@ class Poked:
                 self.take(at, played.script.words(at), played.replies[at])
 
     def take(self, at, words, reply):
-        """Takes an event. An area that has another form begins anew."""
+        """Takes an event. An area that has another form begins again."""
         if self.settings.take(words, reply):
             self.pokes = []
         if words[2:3] == ["setfragment"] and reply.startswith("ok "):

@@ -11,17 +11,17 @@ from blocks import little, measured, numbers_of
 from commands import fail, told
 from sounds import BLOCK, WIDTH, digits, full_scale
 
-# a number of the lowest level stands for the frames of a block, and one of each level above for so many times that; shorter sounds have none
+# a number of the lowest level stands for the frames of a block, and one of each level above for TIMES of the one below; shorter sounds have none
 TIMES, SHORT = 4, 4096
-# so many frames are packed as one
+# how many frames are packed as one
 CHUNK = 1 << 14
 # copies to listen to, the best first: every how many frames give one, and whether channels are joined
 COPIES = ((2, False), (4, False), (8, False), (8, True), (16, True), (32, True), (64, True), (128, True))
 PART = 1 << 15
-# frames that are packed fit where they have at most so many times the room; and which part of the room the copies take of the device, and
+# frames that are packed fit where they have at most this many times the room; and which part of the room the copies take of the device, and
 # of the others
 MAY_FIT, FIRST, OTHERS = 6, 0.5, 0.75
-# so many frames on both sides of a click are held whole
+# how many frames on both sides of a click are held whole
 AROUND = 1024
 
 
@@ -120,13 +120,13 @@ class Track:
         self.copy = {"every": every, "channels": len(lanes), "blob": name} if name else None
 
     def told(self):
-        """What the page is told of it."""
+        """What the page gets of it."""
         return {"name": self.name, "channels": self.device.channels, "rate": self.device.rate, "frames": self.frames, "width": self.width(),
                 "full": full_scale(self.device), "block": BLOCK, "times": TIMES, "levels": self.levels, "chunks": self.chunks, "copy": self.copy}
 
 
 def added(planes, every):
-    """The sums of every so many samples of planes of 16 bits, each of which counts 32768 more. All are added together, as the digits of a
+    """The sums of groups of `every` samples of planes of 16 bits, each of which counts 32768 more. All are added together, as the digits of a
     large number: first the upper and the lower half of each digit of 32 bits, and then digits that are neighbours."""
     count = len(planes[0]) // 2
     total, lower = 0, digits(0xFFFF, count)
@@ -154,7 +154,7 @@ def highest(plane, width):
 
 @functools.lru_cache(4)
 def coded(count):
-    """The codes of 8 bits by the sum of so many samples of 16 bits, each of which counts 32768 more: steps that grow with the level."""
+    """The codes of 8 bits by the sum of `count` samples of 16 bits, each of which counts 32768 more: steps that grow with the level."""
     codes = bytes(min(round(127 * math.log1p(255 * it / 32768) / math.log(256)), 127) for it in range(32768))
     upper = b"".join(bytes([it]) * count for it in codes)
     return (upper[1:] + b"\x7f")[::-1].translate(bytes(-it % 256 for it in range(256))) + upper
@@ -238,5 +238,5 @@ class Packer:
 
 
 def told_parts(begin, end):
-    """Where parts of some frames begin, while it is told how far they are."""
+    """Where parts of some frames begin, while a line says how far they are."""
     return (at for at, _ in told(((at, end) for at in range(begin, end, CHUNK)), "sound is packed", end))

@@ -21,11 +21,11 @@ from whys import Whys
 
 FOLDER = pathlib.Path(__file__).resolve().parent
 PARTS = ("data", "tracks", "axis", "colours", "draw", "minimap", "sound", "script", "reasons", "lanes", "keys", "app", "controls", "main")
-# so many clicks are told, and so many frames have their reasons
+# how many clicks are in a page, and how many frames have their reasons
 CLICKS, REASONED = 20, 1 << 13
-# so many bars of limits a row has at most
+# how many bars of limits a row has at most
 LIMITS = 10000
-# what is kept for what is told of the sounds
+# what is kept for what is said of the sounds
 MARGIN = 100_000
 MEGABYTE = 1_000_000
 
@@ -55,7 +55,7 @@ def script_of(room, played, text):
 
 
 def bars_of(shown, clients, name):
-    """What clients are told: shortages, states and marks, each with what it says."""
+    """What clients are answered: shortages, states and marks, each with what it says."""
     short = [[*it, f"{name} is short from frame {it[0]} to {it[1] - 1}"] for client in clients for it in shortages_of(shown, client)]
     states = [[word, begin, end, f"{name} {'records' if client.opening.way == 'rec' else word} from frame {begin} to {end - 1}"]
               for client in clients for word, begin, end in joined_states(states_of(shown, client))]
@@ -222,7 +222,7 @@ def file_of(title, told, blobs, drawn=""):
 
 
 def page(shown, text, names, window, megabytes):
-    """The text of a page, which has so many megabytes at most."""
+    """The text of a page, which has `megabytes` megabytes at most."""
     for sound in (shown.out, *shown.heard.values()):
         measured(sound)
     limits = limits_of(shown.given, [(0, shown.mixed_frames())]).rows

@@ -5,7 +5,7 @@
  *
  * All descriptors are opened without waiting. An interrupt of N frames of 48000 a second is a wait for as long, or, with --step-file, the
  * number N written into FILE, where something moves the time of a card by it. NAME=WAVE is a wave that lines send. What a system doesn't
- * tell, the slot of an open, is the least one that isn't open, and what it has no call for is told as `not performed`.
+ * answer, the slot of an open, is the least one that isn't open, and what it has no call for is printed as `not performed`.
  *
  * A system has calls that wait all the same, as a close until all is played. With --wait such a call goes on beside the next lines once it
  * took N milliseconds. It is answered `waits`, and where it ended before the script did, `waits, then` and its answer. All replies come at
@@ -192,7 +192,7 @@ static int set(int fd, unsigned long request, uint32_t value) {
     return ioctl(fd, request, &number);
 }
 
-/* Maps what a channel plays out of, as large as its ring. Some kernels take settings with the next question alone, and map only behind that. */
+/* Maps what a channel plays out of, as large as its ring. Some kernels take settings with the next question alone, and map only after that. */
 static bool has_area(struct open *it, uint32_t ring) {
     int size = 0;
     if (it->area) {
@@ -246,7 +246,7 @@ static void look_at_area(struct open *it, const char *name, uint32_t answer) {
     }
 }
 
-/* Sets what an open asks for behind its way. */
+/* Sets what an open asks for after its way. */
 static bool is_set(const struct open *it, char **words) {
     return set(it->fd, REQUEST(SETFMT), it->format) == 0 && set(it->fd, REQUEST(CHANNELS), it->channels) == 0 &&
            set(it->fd, REQUEST(SPEED), number_of(words[5])) == 0;

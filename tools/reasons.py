@@ -123,7 +123,7 @@ def run_words(it, solo, moments):
 
 
 def recording_words(it, solo, found):
-    """Which frame a recording gets as the frame is handed over, by what it is told around it; or None."""
+    """Which frame a recording gets as the frame is handed over, by its answers around it; or None."""
     if not found.reached or not found.behind or found.reached[1].setup:
         return None
     (opening, before), (_, behind), size = found.reached, found.behind, size_of(found.behind[1].settings)
@@ -144,7 +144,7 @@ OWN_STAGES = "it is limited there by its own stages, before its volume"
 
 
 def turn_words(it):
-    """The lines that tell the interrupts of a frame."""
+    """The lines that name the interrupts of a frame."""
     script, turns = it.played.script, (("hands it over", it.handed), ("mixed it", it.mixed))
     return [f"line {script.numbers[event]} {does}: {script.events[event]}" for does, event in turns if event is not None]
 

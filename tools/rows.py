@@ -10,7 +10,7 @@ NAMES = {1: (), 2: SIDES[:2], 4: (*SIDES[:2], *SIDES[4:6]), 6: SIDES[:6], 8: SID
 
 # what stands between rows
 GAP = 20
-# what is left out has this part of the frames at least, so many frames, and what is kept around something so large a part of them
+# what is left out has this part of the frames at least, and at least this many frames; what is kept around something is this part of them
 LEFT_OUT, FEWEST, AROUND = 8, 64, 50
 
 

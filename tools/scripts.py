@@ -22,7 +22,7 @@ from sounds import WIDTH, Device, size_of, sound_of
 # one opening of a channel: the events that opened it and closed it, or None, its way, slot and descriptor, the events that ask something
 # of it, these two with them, and whether it was in a group
 Opening = collections.namedtuple("Opening", "at closed way slot descriptor events joins")
-# the greatest ring of a client, two fragments of 65536 bytes; so many frames of the device that what they mix fits into it;
+# the greatest ring of a client, two fragments of 65536 bytes; a number of frames of the device that mix no more than fits into it;
 # and how many frames are mixed at most beside those that last as long as what is handed over
 GREATEST_RING = 0x20010
 FEW = 1024
@@ -31,7 +31,7 @@ AHEAD = 34
 EVENTS, BYTES = 1 << 20, 1 << 28
 # texts up to so long are kept once, however often they come
 SHORT = 24
-# so many lines are written at once
+# how many lines are written at once
 AT_ONCE = 1 << 13
 # the numbers of a device whose configuration names none
 USUAL = {"channels": "2", "rate": "48000", "hw_block": "256", "hw_blocks": "4"}
@@ -93,7 +93,7 @@ def unquoted(value):
 @functools.lru_cache(16)
 def keys_of(text):
     """What the tables of a configuration's text set, by table and key: read as TOML where python can, else line by line. A text that is
-    none sets nothing: its faults are the program's to tell."""
+    none sets nothing: its faults are the program's to report."""
     if tomllib is None:
         return {key: value for _, key, value in settled(text)}
     try:
@@ -109,7 +109,7 @@ def has_entries(text, name):
 
 
 def count_of(keys, key, usual):
-    """The number that a configuration gives a key. Where it is none the program tells so."""
+    """The number that a configuration gives a key. Where it is none the program says so."""
     try:
         return int(keys.get(key, usual), 0)
     except ValueError:
@@ -135,7 +135,7 @@ def parts_of(count, most):
 
 
 def with_a_gauge(counts, rate, device_rate):
-    """A script with one client, at the rate of the mix, that is never short. Behind each interrupt: what was taken of it?"""
+    """A script with one client, at the rate of the mix, that is never short. After each interrupt: what was taken of it?"""
     yield from (f"open 0 play u8 1 {rate}", f"ioctl 0 setfragment {GREATEST_RING}")
     handed = written = 0
     for count in counts:
@@ -150,7 +150,7 @@ def with_a_gauge(counts, rate, device_rate):
 
 
 def rates_of(text):
-    """The rate and the channels of the mix that a configuration tells, by these names."""
+    """The rate and the channels of the mix that a configuration states, by these names."""
     keys = keys_of(text)
     return {key[7:]: count_of(keys, key, "0") for key in keys if key in ("vchans.rate", "vchans.channels")}
 
@@ -232,7 +232,7 @@ def replies_of(printed, wanted):
 
 
 class Played:
-    """A script that was run: its replies, what its interrupts hand over, and its openings; and the frames of OUT, behind which stands
+    """A script that was run: its replies, what its interrupts hand over, and its openings; and the frames of OUT, after which stands
     what the device's ring holds at the end, unless the script is as long as one can be."""
 
     def __init__(self, room, script):
@@ -273,7 +273,7 @@ class Played:
         return bisect.bisect_right(self.ends, frame) if 0 <= frame < self.total else None
 
     def spans(self):
-        """The interrupts: the frames that each hands over, from the first to the one behind the last."""
+        """The interrupts: the frames that each hands over, from the first to the one after the last."""
         return zip([0, *self.ends], self.ends)
 
     def slots(self):

@@ -13,14 +13,14 @@ LEGEND = (("slot", "what a slot gives"), ("mix", "the mix"), ("device", "what th
 LANE, LEAST, STATE, FILL = 60, 16, 6, 16
 # how wide a letter of a small text is, and how near lines of interrupts and boxes of them stand at most, in tenths
 LETTER, NEAR, BOX = 62, 40, 30
-# so many moments are told apart by columns where they are near each other
+# from how many moments on those near each other are drawn by columns
 CLOSE = 300
 # how many letters stand beside a row
 LETTERS = 24
 
 
 def draw_lanes(drawing, lanes, top):
-    """A lane for each channel. Answers the height behind them."""
+    """A lane for each channel. Answers the height below them."""
     height, names = max(LEAST, LANE // lanes.channels), NAMES[lanes.channels]
     for channel in range(lanes.channels):
         middle = top + channel * height + height // 2
@@ -115,7 +115,7 @@ def levels_of(drawing, moments):
 
 
 def draw_fills(drawing, name, clients, top, end):
-    """How much waits in the rings of openings that share a row, and the size of the ring where most waits. Answers the height behind it."""
+    """How much waits in the rings of openings that share a row, and the size of the ring where most waits. Answers the height below it."""
     moments = [it for client in clients for it in client.moments]
     fullest = max(moments, key=lambda it: it.waiting) if any(it.waiting for it in moments) else moments[-1]
     drawing.zero(top + FILL, end)
@@ -126,7 +126,7 @@ def draw_fills(drawing, name, clients, top, end):
 
 
 def draw_client(drawing, shown, client, name, top, middle):
-    """What a client is told, over and below its lanes, which are between two heights."""
+    """What a client is answered, over and below its lanes, which are between two heights."""
     for begin, end in shortages_of(shown, client):
         drawing.bar("short", begin, end, top, middle - top, f"{name} is short from frame {begin} to {end - 1}")
     draw_states(drawing, shown, client, name, middle + 3)
@@ -172,7 +172,7 @@ def draw_mix(drawing, shown, row):
 
 
 def draw_device(drawing, shown, row):
-    """The row of the device: what it gets, and behind that what its ring holds at the end."""
+    """The row of the device: what it gets, and after that what its ring holds at the end."""
     end, height = shown.total + shown.device.ring, row.lanes.channels * max(LEAST, LANE // row.lanes.channels)
     drawing.bar("left", shown.total, end, row.top, height, f"frames {shown.total} to {end - 1} are still in the ring")
     bottom = row.bottom = draw_lanes(drawing, row.lanes, row.top)
@@ -203,7 +203,7 @@ def draw_groups(drawing, shown, rows):
 
 
 def draw_legend(drawing, top):
-    """What the colours and marks mean, of those that occur. Answers the height behind it."""
+    """What the colours and marks mean, of those that occur. Answers the height below it."""
     x, marks = 12, {"dropped": "M{x} {y}m-4 -4l8 8m0 -8l-8 8", "poked": "M{x} {y}m0 -4l4 8h-8z", "mixer": "M{x} {y}m0 -5l4 5l-4 5l-4 -5z", "group": "M{x} {y}m0 -6v12"}
     for kind, words in [it for it in LEGEND if it[0] in drawing.kinds]:
         wide = 30 + LETTER * len(words) // 10
@@ -216,7 +216,7 @@ def draw_legend(drawing, top):
 
 
 def draw_rows(drawing, shown, rows, top):
-    """All rows. Answers the height behind them, and which row each opening has."""
+    """All rows. Answers the height below them, and which row each opening has."""
     slots, mix, device, recordings = rows
     places = {}
     for slot, row in slots.items():

@@ -1,4 +1,4 @@
-"""What a picture shows of a script: what is mixed of each slot, and what each client is told, as the program says it."""
+"""What a picture shows of a script: what is mixed of each slot, and what each client is answered, as the program says it."""
 import bisect
 import collections
 import pathlib
@@ -11,14 +11,14 @@ from scripts import Played, Room, Script, device_of, on_the_mix, parts_of, rates
 from sounds import Sound, size_of
 from sums import solos_of
 
-# an opening with what it is told, the clients of its slot, and its place among these
+# an opening with what it is answered, the clients of its slot, and its place among these
 Client = collections.namedtuple("Client", "opening moments solo which")
-# so many interrupts that find a client short are looked at frame by frame; of more it is told from which to which they are
+# how many interrupts that find a client short are looked at frame by frame; of more it is only said from which to which they are
 CLOSELY = 100
 
 
 class Along:
-    """Which frames of a sound stand where on the axis of the device: rows of the first and the one behind the last on the axis, and the
+    """Which frames of a sound stand where on the axis of the device: rows of the first and the one after the last on the axis, and the
     same of the sound."""
 
     def __init__(self, rows):
@@ -26,7 +26,7 @@ class Along:
         self.begins, self.firsts = [row[0] for row in self.rows], [row[2] for row in self.rows]
 
     def frames(self, begin, end):
-        """The frames of the sound at some frames of the axis, from the first to the one behind the last, or None."""
+        """The frames of the sound at some frames of the axis, from the first to the one after the last, or None."""
         first, last = max(bisect.bisect_right(self.begins, begin) - 1, 0), bisect.bisect_left(self.begins, end)
         rows = [row for row in self.rows[first:last] if row[1] > begin and row[3] > row[2]] if last - first < 4 else self.rows[first:last]
         if not rows or rows[-1][3] <= rows[0][2]:
@@ -35,7 +35,7 @@ class Along:
         return low, max(high, low + 1)
 
     def inside(self, row, at, up=0):
-        """The frame of the sound that stands at a frame of the axis, or the one behind it."""
+        """The frame of the sound that stands at a frame of the axis, or the one after it."""
         begin, end, first, last = row
         at = min(max(at, begin), end)
         scaled = (at - begin) * (last - first)
@@ -78,7 +78,7 @@ class Shown:
         return begin, end
 
     def around(self):
-        """The frames that are shown, with those of an interrupt before and behind them."""
+        """The frames that are shown, with those of an interrupt before and after them."""
         return max(self.begin - self.device.ring, 0), self.end + self.device.ring
 
     def slots(self):
@@ -94,7 +94,7 @@ class Shown:
                 yield Client(*it, solo, which)
 
     def of_slot(self, slot):
-        """The openings that have a slot one after another, with what they are told."""
+        """The openings that have a slot one after another, with what they are answered."""
         return [it for it in self.clients if it.opening.slot == slot and it.opening.way != "rec"]
 
     def mixed_frames(self):
@@ -121,7 +121,7 @@ class Shown:
         return rows
 
     def label(self, slot):
-        """The waves that a slot sends, or what stands behind its opens as a comment."""
+        """The waves that a slot sends, or what stands after its opens as a comment."""
         files, names, script = files_of(self.config), [], self.played.script
         for it in self.of_slot(slot):
             sent = [script.words(at)[2] for at in it.opening.events if script.events[at].startswith("send ")]

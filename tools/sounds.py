@@ -26,7 +26,7 @@ def size_of(device):
 
 
 def full_scale(device):
-    """The number behind the greatest sample."""
+    """The number above the greatest sample."""
     return 1 << 8 * WIDTH[device.format] - 1
 
 
@@ -69,7 +69,7 @@ class Sound:
         return os.pread(self.file.fileno(), max(0, end - begin) * self.frame_size, self.begin + begin * self.frame_size)
 
     def part(self):
-        """The bytes behind the last frame, of a file that was cut within one."""
+        """The bytes after the last frame, of a file that was cut within one."""
         return os.pread(self.file.fileno(), self.rest, self.begin + self.frames * self.frame_size)
 
     def samples(self, begin, end):
@@ -135,7 +135,7 @@ def highest_of(data, form):
 
 @functools.lru_cache(64)
 def digits(value, count):
-    """A number of so many digits of 32 bits, each the same."""
+    """A number of `count` digits of 32 bits, each the same."""
     return int.from_bytes(value.to_bytes(4, "little") * count, "little")
 
 
@@ -147,7 +147,7 @@ def any_apart(one, other, count, least):
 
 
 def extreme(samples, tops, which):
-    """The least or the greatest of samples, whose highest bytes are told too: most samples are left out by these."""
+    """The least or the greatest of samples, whose highest bytes are given too: most samples are left out by these."""
     top = which(tops) if len(tops) < FEW else next(it for it in (range(256) if which is min else range(255, -1, -1)) if it in tops)
     if len(tops) < FEW or tops.count(top) > FEW:
         return which(samples)
@@ -175,7 +175,7 @@ def differ(first, second):
 
 
 def joined(numbers, gap=1):
-    """Numbers that follow one another within a gap, as the first and the one behind the last of each row of them."""
+    """Numbers that follow one another within a gap, as the first and the one after the last of each row of them."""
     begin = last = None
     for at in numbers:
         if begin is not None and at > last + gap:

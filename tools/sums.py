@@ -10,7 +10,7 @@ from sounds import full_scale, joined
 
 # the samples that were limited, by their number; the rows of frames that have one; and how far the sum would go without a limit
 Limits = collections.namedtuple("Limits", "count rows peak full")
-# so many frames are looked at in one go; and so many of the first ones of a row tell how far its sum goes
+# how many frames are looked at in one go; and how many of the first ones of a row show how far its sum goes
 PART, FIRST = 4096, 1 << 14
 
 

@@ -1,4 +1,4 @@
-"""Positions as they are told: frames, or seconds."""
+"""Positions as they are written: frames, or seconds."""
 import fractions
 import re
 

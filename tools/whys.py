@@ -1,4 +1,4 @@
-"""What a page tells of frames: what each slot adds, the sums, and which frame of which run that is; of many frames at once."""
+"""What a page says of frames: what each slot adds, the sums, and which frame of which run that is; of many frames at once."""
 import array
 import operator
 import re
@@ -38,7 +38,7 @@ class Sum:
 
 
 class Whys:
-    """The reasons of frames of OUT, told as rows of them."""
+    """The reasons of frames of OUT, as rows of them."""
 
     def __init__(self, shown, frames, heard):
         self.shown, self.played, self.rows, self.heard = shown, shown.played, frames, heard
@@ -89,7 +89,7 @@ class Whys:
         return found
 
     def told_around(self, solo, frames):
-        """What a slot's client is told around each of some frames."""
+        """What a slot's client is answered around each of some frames."""
         cuts = cuts_at(self.played, frames)
         return around(solo, frames, solo.told((), cuts) if cuts else [])
 

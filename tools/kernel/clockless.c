@@ -3,10 +3,10 @@
  * A card without a clock, for ALSA: its time moves on where it is told to and nowhere else, so an interrupt is N frames exactly.
  *
  * What plays is added in the order of the substreams, with a limit after each, and kept. Recordings hear the frames that were given for
- * them, and silence behind these. Four files of /proc/clockless are the other side of the card:
+ * them, and silence after these. Four files of /proc/clockless are the other side of the card:
  *
  *     set       "RATE CHANNELS PLAY RECORD" is what the card is from now on, and how many can play and record at once. Its time begins
- *               anew, and nothing is kept
+ *               again, and nothing is kept
  *     step      "N" has N frames pass
  *     played    has the frames that the card got since, of 16 bits with the lowest byte first
  *     captured  takes the frames that it hears, in the same form
@@ -53,7 +53,7 @@ static struct {
 
 /* ---- tapes ---- */
 
-/* Makes room for so many bytes of a tape, of which those behind its size are silence. */
+/* Makes room for this many bytes of a tape, of which those past its own size are silence. */
 static int make_room(struct tape *tape, size_t size)
 {
     size_t room = max_t(size_t, tape->room, TAPE);
@@ -89,7 +89,7 @@ static size_t bytes_of(unsigned int frames)
     return (size_t)frames * clockless.channels * sizeof(__le16);
 }
 
-/* How many frames pass until something that runs has an interrupt, of so many. */
+/* How many of these frames pass until something that runs has an interrupt. */
 static unsigned int until_interrupt(unsigned int frames)
 {
     struct voice *voice = clockless.voices;

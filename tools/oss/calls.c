@@ -53,7 +53,7 @@ static uint64_t room_of(struct holder *holder, struct token *token) {
     return token_drains(holder, token) ? 0 : device_ask(&holder->device, (uint32_t)token->play, DSP_GETOSPACE).fourth;
 }
 
-/* Writes what has room. Answers what is told to the program, or 0 where the call waits. */
+/* Writes what has room. Answers what the program gets, or 0 where the call waits. */
 static int32_t written(struct holder *holder, struct token *token, struct call *call) {
     while (call->done < call->head.length) {
         uint64_t room = room_of(holder, token), left = call->head.length - call->done;
@@ -224,7 +224,7 @@ static bool serve_poll(struct holder *holder, struct call *call) {
     return false;
 }
 
-/* A call behind the last close waits until all is played. A copy that is left waits for nothing. */
+/* A call after the last close waits until all is played. A copy that is left waits for nothing. */
 static bool serve_closed(struct holder *holder, struct call *call) {
     struct token *token = token_of(holder, call->head.token);
     if (token && token_is_clear(holder, token) && !token->is_hung) {

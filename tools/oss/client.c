@@ -55,7 +55,7 @@ bool client_waits(int fd) {
     return !(fcntl(fd, F_GETFL) & O_NONBLOCK);
 }
 
-/* Whether a name is one of a device, with a digit behind it or without: all of them are one. */
+/* Whether a name is one of a device, with a digit after it or without: all of them are one. */
 static bool is_device(const char *path, const char *name) {
     size_t length = strlen(name);
     return strncmp(path, name, length) == 0 && strlen(path + length) <= 1 && strspn(path + length, "0123456789") == strlen(path + length);
@@ -116,7 +116,7 @@ int client_begin(enum wire_op op, uint64_t token, uint64_t number, uint32_t flag
     return fd;
 }
 
-/* Receives so many bytes. A signal takes the call back once, and then its answer comes at once. */
+/* Receives length bytes. A signal takes the call back once, and then its answer comes at once. */
 static bool is_received(int fd, void *bytes, size_t length, bool *is_back) {
     for (size_t done = 0; done < length;) {
         ssize_t got = recv(fd, (char *)bytes + done, length - done, 0);

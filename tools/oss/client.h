@@ -1,4 +1,4 @@
-/* The library in a program: what it shares. All that it keeps is in one struct, and none of it changes after its begin but what epoll is told. */
+/* The library in a program: what it shares. All that it keeps is in one struct, and none of it changes after its begin but what epoll watches. */
 #ifndef CLIENT_H
 #define CLIENT_H
 
@@ -18,10 +18,10 @@ struct client {
     socklen_t size;
 };
 
-/* What the environment tells, once; without a holder nothing is caught. */
+/* What the environment says, once; without a holder nothing is caught. */
 const struct client *client(void);
 
-/* The system's function behind one of this library's, looked for once at each place. */
+/* The system's function that one of this library's replaces, looked for once at each place. */
 void *client_real(const char *name);
 #define REAL(name)                                                                                                                              \
     (__extension__({                                                                                                                            \
@@ -49,7 +49,7 @@ long client_end(int connection, void *bytes, size_t room);
 /* Both. */
 long client_call(enum wire_op op, uint64_t token, uint64_t number, uint32_t flags, const void *bytes, size_t length, void *into, size_t room);
 
-/* What stat tells of such a path or descriptor. */
+/* What stat answers of such a path or descriptor. */
 void client_stat(struct stat *is, enum wire_kind kind);
 
 #endif

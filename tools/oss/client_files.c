@@ -1,4 +1,4 @@
-/* Opens of a program, and what it is told of the paths. */
+/* Opens of a program, and what it is answered of the paths. */
 #define _GNU_SOURCE
 #include "client.h"
 
@@ -96,7 +96,7 @@ static int close_stream(void *cookie) {
     return close((int)(intptr_t)cookie);
 }
 
-/* A stream over a descriptor: its reads and writes are those of this library, and it tells its descriptor. */
+/* A stream over a descriptor: its reads and writes are those of this library, and fileno answers the descriptor. */
 static FILE *stream_of(int fd, const char *mode) {
     FILE *file = fd < 0 ? NULL : fopencookie((void *)(intptr_t)fd, mode, (cookie_io_functions_t){read_stream, write_stream, NULL, close_stream});
     if (file) {
@@ -133,7 +133,7 @@ int fileno(FILE *file) {
     return file && file->_fileno > 0 && client_token(file->_fileno) ? file->_fileno : REAL(fileno)(file);
 }
 
-/* ---- what is told of paths ---- */
+/* ---- what is answered of paths ---- */
 
 static int told(struct stat *is, enum wire_kind kind) {
     memset(is, 0, sizeof *is);
@@ -141,7 +141,7 @@ static int told(struct stat *is, enum wire_kind kind) {
     return 0;
 }
 
-/* What the system tells of a descriptor, with what it stands for. */
+/* What the system answers of a descriptor, with what it stands for. */
 static int told_of(int fd, struct stat *is) {
     int answer = (int)syscall(SYS_newfstatat, fd, "", is, AT_EMPTY_PATH);
     if (answer == 0 && S_ISSOCK(is->st_mode) && client_token(fd)) {

@@ -233,7 +233,7 @@ unsigned sleep(unsigned seconds) {
 
 /* ---- epoll ---- */
 
-/* What epoll was told of descriptors of the holder, which it can't ask itself. */
+/* What epoll was given of descriptors of the holder, which it can't ask itself. */
 static struct {
     pthread_mutex_t lock;
     struct watched {
@@ -278,7 +278,7 @@ int epoll_ctl(int epoll, int what, int fd, struct epoll_event *event) {
     return fault ? -1 : 0;
 }
 
-/* The descriptors of the holder that an epoll watches, behind it in a list. What is closed is watched no more. */
+/* The descriptors of the holder that an epoll watches, after it in a list. What is closed is watched no more. */
 static nfds_t with_watched(int epoll, struct pollfd *list, struct epoll_event *events) {
     nfds_t count = 0;
     list[count++] = (struct pollfd){epoll, POLLIN, 0};

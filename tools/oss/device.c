@@ -9,7 +9,7 @@
 
 enum { REPLY = 160, LINE_MOST = 4096 };
 
-/* What the answer of a request is told as. */
+/* The form of a request's answer. */
 enum form { NOTHING, NUMBER, SPACE, PLACE, ERRORS };
 
 static const struct {
@@ -63,7 +63,7 @@ static struct wave wave_of(const struct device *device) {
     return (struct wave){8 * width, width, device->settings.channels, device->settings.rate};
 }
 
-/* Bytes that nobody takes any more are dropped, and that is told at the end. */
+/* Bytes that nobody takes any more are dropped, and that is reported at the end. */
 static void hear(struct device *device, const uint8_t *bytes, size_t length) {
     if (device->wave && !device->is_unheard) {
         if (!device->has_head) {
@@ -76,7 +76,7 @@ static void hear(struct device *device, const uint8_t *bytes, size_t length) {
     }
 }
 
-/* The header is written anew where that can be. */
+/* The header is written again where that can be. */
 static void end_wave(struct device *device) {
     if (!device->wave) {
         return;

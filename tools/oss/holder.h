@@ -67,7 +67,7 @@ int token_rec(struct holder *holder, struct token *token);
 void token_start_recording(struct holder *holder, struct token *token);
 /* Makes a descriptor a mapped one, and its memory. Answers 0 or minus an errno. */
 int token_map(struct holder *holder, struct token *token, uint64_t length);
-/* Tells the engine what was stored into areas. */
+/* Gives the engine what was stored into areas. */
 void token_poke(struct holder *holder, struct token *token);
 /* Makes an area silent, as the engine does where its settings became others. */
 void token_is_silent(struct holder *holder, struct token *token);
@@ -75,7 +75,7 @@ void token_is_silent(struct holder *holder, struct token *token);
 uint64_t token_waiting(struct holder *holder, const struct token *token);
 uint64_t token_lasts(struct holder *holder, const struct token *token, uint64_t bytes);
 bool token_plays(struct holder *holder, const struct token *token);
-/* Whether it plays to its end behind a sync. */
+/* Whether it plays to its end after a sync. */
 bool token_drains(struct holder *holder, struct token *token);
 /* Whether time changes something for a descriptor. */
 bool token_moves(struct holder *holder, struct token *token);
@@ -85,7 +85,7 @@ bool token_is_ready(struct holder *holder, struct token *token, uint32_t events,
 
 /* Goes on with a call. Answers whether it is over. */
 bool call_serve(struct holder *holder, struct call *call);
-/* Tells a call that is taken back what it has so far. */
+/* Answers a call that is taken back with what it has so far. */
 void call_end(struct call *call);
 void call_answer(struct call *call, int32_t number, const void *bytes, uint32_t length);
 int oss_request(struct holder *holder, struct token *token, uint32_t request, void *argument, size_t size);

@@ -23,7 +23,7 @@ bool journal_goes_on(const struct journal *journal) {
     return journal->script && !journal->cut && !journal->lost;
 }
 
-/* Whether an event with a line of so many bytes has room. Where it hasn't, the script ends before it. */
+/* Whether an event with a line of this many bytes has room. Where it hasn't, the script ends before it. */
 static bool fits(struct journal *journal, uint64_t line) {
     if (journal->events >= MOST_EVENTS || journal->script_bytes + line > MOST_SCRIPT) {
         journal->cut = true;

@@ -11,7 +11,7 @@ struct journal {
     FILE *script, *replies, *data;
     const char *script_path, *replies_path, *data_path;
     uint64_t events, script_bytes, data_bytes, device_bytes;
-    uint64_t line_bytes; /* how many bytes of sound go into lines; what comes behind them goes into the data file */
+    uint64_t line_bytes; /* how many bytes of sound go into lines; what comes after them goes into the data file */
     uint64_t lined;      /* how many did */
     bool cut;            /* the next event is more than a run takes: nothing is written any more */
     bool lost;           /* a file has no room */
@@ -26,7 +26,7 @@ bool journal_goes_on(const struct journal *journal);
 /* Takes in an event: its line, and what it was answered. */
 void journal_event(struct journal *journal, const char *reply, const char *form, ...) __attribute__((format(printf, 3, 4)));
 
-/* Takes in a line of a few words with bytes behind it, and its answer. */
+/* Takes in a line of a few words with bytes after it, and its answer. */
 void journal_bytes(struct journal *journal, const char *reply, const char *words, const uint8_t *bytes, size_t length);
 
 /* Takes in bytes that descriptor d was written. */
@@ -35,7 +35,7 @@ void journal_sound(struct journal *journal, uint32_t d, const uint8_t *bytes, si
 /* Takes in a read, and the bytes that it got. */
 void journal_read(struct journal *journal, uint32_t d, size_t wanted, const uint8_t *bytes, size_t length);
 
-/* Looks whether an interrupt of so many bytes of the device has room in a run, and counts it. */
+/* Looks whether an interrupt of this many bytes of the device has room in a run, and counts it. */
 bool journal_has_room(struct journal *journal, uint64_t bytes);
 
 /* Ends the files, with the header of the data file. */

@@ -40,7 +40,7 @@ static uint64_t shape_of(struct holder *holder, const struct token *token) {
     return format.first << 8 | device_ask(&holder->device, (uint32_t)token->play, DSP_CHANNELS).first;
 }
 
-/* An area is silent anew where the format, the channels or the fragments are others. */
+/* An area is silent again where the format, the channels or the fragments are others. */
 static void look_at_area(struct holder *holder, struct token *token, uint64_t before, uint32_t request, const void *argument) {
     uint32_t fragments = token->fragments;
     if (request == DSP_OSS_LINUX_SETFRAGMENT) {

@@ -39,7 +39,7 @@ static bool is_in_use(const struct holder *holder) {
     return is_so;
 }
 
-/* One interrupt, if it is due. Of a device that stood still for long the time begins anew. */
+/* One interrupt, if it is due. Of a device that stood still for long the time begins again. */
 static int by_clock(struct holder *holder) {
     int64_t lasts = block_lasts(holder), at = now();
     if (!is_in_use(holder)) {

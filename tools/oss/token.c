@@ -155,7 +155,7 @@ uint64_t token_lasts(struct holder *holder, const struct token *token, uint64_t 
     return frames > 1 ? (frames - 1) * holder->device.settings.rate / rate : 0;
 }
 
-/* A channel that has started is told the device's ring with its delay. */
+/* The delay of a channel that has started includes the device's ring. */
 bool token_plays(struct holder *holder, const struct token *token) {
     return token->play >= 0 && !token->maps &&
            device_ask(&holder->device, (uint32_t)token->play, DSP_GETODELAY).first > token_waiting(holder, token);
@@ -274,7 +274,7 @@ int token_map(struct holder *holder, struct token *token, uint64_t length) {
     return 0;
 }
 
-/* Where a poke that begins at a place ends: behind the last byte that differs, with no more than a few equal ones between. */
+/* Where a poke that begins at a place ends: after the last byte that differs, with no more than a few equal ones between. */
 static uint32_t poke_end(const struct token *token, uint32_t at) {
     uint32_t end = at + 1, most = token->ring - at < LINE_MOST ? token->ring : at + LINE_MOST;
     for (uint32_t next = end; next < most && next - end < GAP; next += 1) {
@@ -301,7 +301,7 @@ void token_poke(struct holder *holder, struct token *token) {
 
 /* ---- the end of a descriptor ---- */
 
-/* What is still to be played of a descriptor: what waits, and the device's ring behind it. */
+/* What is still to be played of a descriptor: what waits, and the device's ring after it. */
 static uint64_t rest_of(struct holder *holder, const struct token *token) {
     const struct device *device = &holder->device;
     if (token->play < 0 || (!token->maps && !token->has_sound)) {

@@ -11,7 +11,7 @@ struct wave {
     uint32_t bits, width, channels, rate;
 };
 
-/* Writes the header of a wave whose body has so many bytes; of one whose end isn't known yet the size is told as that. */
+/* Writes the header of a wave whose body has size bytes; where its end isn't known yet, the header says so. */
 static inline void wave_head(FILE *file, struct wave wave, uint64_t size) {
     uint32_t frame = wave.width * wave.channels, told = size > 0xffffff00 ? 0xffffffff : (uint32_t)size;
     uint32_t all = told == 0xffffffff ? told : 36 + told + told % 2;

@@ -11,7 +11,7 @@
 
 #include <stdint.h>
 
-/* the most bytes of one call; and the names of what the holder is told by the environment of the program */
+/* the most bytes of one call; and the names of what a program finds in its environment of the holder */
 enum { WIRE_MOST = 65536, WIRE_POLLED = 64 };
 #define WIRE_PATH "DSP_LIVE"
 #define WIRE_FAST "DSP_LIVE_FAST"
@@ -39,7 +39,7 @@ struct wire_call {
     uint64_t number;
     uint32_t kind;
     uint32_t thread; /* who calls */
-    uint32_t length; /* of the bytes behind this */
+    uint32_t length; /* of the bytes after this */
     uint32_t unused;
 };
 
