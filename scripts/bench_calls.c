@@ -1,5 +1,5 @@
 /*
- * So many rounds of five calls: bench_calls ROUNDS OUT
+ * Rounds of five calls: bench_calls ROUNDS OUT
  *
  * In each round four clients write four frames each, and an interrupt takes four. What is handed over goes to the file, as `run` writes
  * what the same lines of a script hand over.

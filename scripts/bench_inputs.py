@@ -52,7 +52,7 @@ def make_wave(path, form, channels, rate, seconds):
 
 
 class Clients:
-    """The lines of a script in which so many clients send one wave, never short of sound: an interrupt comes as soon as all have
+    """The lines of a script in which `count` clients send one wave, never short of sound: an interrupt comes as soon as all have
     sent what it takes and some frames more."""
 
     def __init__(self, count, rate, device_rate=48000, block=1024, ahead=64):
@@ -161,7 +161,7 @@ pcm.to24 { type plug slave { pcm "written" format S24_3LE } }
 # ---- the jobs
 
 class Inputs:
-    """Makes the inputs of jobs in a folder, with so many seconds of sound."""
+    """Makes the inputs of jobs in a folder, with `seconds` seconds of sound."""
 
     def __init__(self, folder, seconds):
         self.folder, self.seconds = folder, seconds

@@ -2,7 +2,7 @@
  *
  *   bench_sections IN OUT [SHIFT B0 B1 B2 A1 A2]..
  *
- * Each frame of IN, behind 44 bytes of a header, is brought to 32 bits a sample, goes through up to four sections one after another,
+ * Each frame of IN, after 44 bytes of a header, is brought to 32 bits a sample, goes through up to four sections one after another,
  * and is written to OUT with 16 bits. A section is the recursion of docs/SCRIPTS.md, with sums of 64 bits. Of the forms that were
  * tried none is faster: each section goes over a whole block, with both channels in one loop, and all that it keeps in locals. */
 #include <stdint.h>

@@ -17,7 +17,7 @@ import time
 import urllib.request
 
 NAMES = ("chromium", "chromium-browser", "google-chrome", "chrome")
-# so many seconds something is waited for
+# the seconds that something is waited for
 PATIENCE = 60
 # of a frame of the socket: the last one of a text, a close, and the bit that says it is masked
 TEXT, CLOSE, MASKED = 0x81, 0x88, 0x80
@@ -99,7 +99,7 @@ class Browser:
 
 
 class Tab:
-    """A tab: what is asked of it, and what it told by itself: its requests, its messages and its faults."""
+    """A tab: what is asked of it, and what it says by itself: its requests, its messages and its faults."""
 
     def __init__(self, line):
         self.line, self.count, self.said, self.requests, self.loaded = line, 0, [], [], 0
@@ -107,7 +107,7 @@ class Tab:
             self.ask(f"{domain}.enable")
 
     def ask(self, method, **words):
-        """What the browser answers. What it tells meanwhile is kept."""
+        """What the browser answers. What it says meanwhile is kept."""
         self.count += 1
         self.line.send(json.dumps({"id": self.count, "method": method, "params": words}))
         while True:
@@ -143,14 +143,14 @@ class Tab:
         self.ask("Emulation.setDeviceMetricsOverride", width=width, height=height, deviceScaleFactor=ratio, mobile=False)
 
     def value(self, code):
-        """What some code comes to, or a promise of it."""
+        """The value of some code, or of its promise."""
         found = self.ask("Runtime.evaluate", expression=code, returnByValue=True, awaitPromise=True)
         if "exceptionDetails" in found:
             raise RuntimeError(f"{code}: {found['exceptionDetails'].get('exception', {}).get('description')}")
         return found["result"].get("value")
 
     def wait(self, code):
-        """Waits until some code comes to something true."""
+        """Waits until some code gives something true."""
         wait_until(lambda: self.value(code), f"{code} doesn't come: {self.said}")
 
     def key(self, name, text="", modifiers=0):

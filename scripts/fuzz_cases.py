@@ -3,7 +3,7 @@ import dataclasses
 import re
 import struct
 
-# numbers at the ends of ranges, as a script or a configuration tells them
+# numbers at the ends of ranges, as a script or a configuration states them
 ENDS = (
     "0 1 2 3 4 8 9 15 16 17 31 32 33 63 64 65 100 101 127 128 255 256 257 512 1023 1024 1025 3999 4000 4095 4096 4097 8192 8193 "
     "16384 22050 48000 65535 65536 131072 131073 192000 192001 16777216 16777217 2147483647 2147483648 4294967295 4294967296 "

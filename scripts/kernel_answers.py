@@ -7,7 +7,7 @@ from commands import fail
 
 # a difference: the script, its line, what the kernel answers and what the program does
 Apart = collections.namedtuple("Apart", "script line kernel program")
-# the line by which the sound of a script is told
+# the line that reports the sound of a script
 SOUND = "sound"
 
 
@@ -51,7 +51,7 @@ class Tally:
             self.waits += one in ("waits", f"waits, then {two}")
 
     def add_sound(self, case, told, sounds):
-        """Counts the sound of a script that sounds, by what is told of it."""
+        """Counts the sound of a script that sounds, by what is reported of it."""
         if sounds:
             self.add(self.sounds, Apart(case.name, SOUND, told, "same"), told == "same")
 
@@ -63,7 +63,7 @@ def replies_in(text, own):
 
 
 def told_exactly(kernel, program, size):
-    """What is told of the sound of a card whose frames come exactly: the first frame that is another."""
+    """What is reported of the sound of a card whose frames come exactly: the first frame that is another."""
     if kernel == program:
         return "same"
     both = zip(range(0, max(len(kernel), len(program)), size), range(size, max(len(kernel), len(program)) + size, size))
@@ -77,6 +77,6 @@ def heard(data, size):
 
 
 def told_as_heard(kernel, program, size):
-    """What is told of the sound of a card that goes by a clock: whether all is heard, wherever it begins."""
+    """What is reported of the sound of a card that goes by a clock: whether all is heard, wherever it begins."""
     one, two = heard(kernel, size), heard(program, size)
     return "same" if one == two else "nothing is heard" if not one else "it is another"

@@ -27,7 +27,7 @@ def text_of_lines(description):
 
 
 def case_of(path):
-    """The case of a script, or of the lines that one is told by."""
+    """The case of a script, or of the lines that one is given by."""
     config = path.with_suffix(".toml")
     text = path.read_text(encoding="utf-8", errors="surrogateescape")
     text = text_of_lines(text) if path.suffix == ".lines" else text
@@ -68,7 +68,7 @@ def has_own_fragments(events, at, descriptor):
 
 
 def asked_of(events, replies):
-    """What a kernel is asked for a script. Behind an open come the fragments of this program where the script asks for none; and in front
+    """What a kernel is asked for a script. After an open come the fragments of this program where the script asks for none; and in front
     of a trigger that starts a recording or a mapped channel one that stops it, as a kernel starts these by a change alone."""
     lines, own, ways = [], [], {}
     for at, (event, reply) in enumerate(zip(events, replies)):

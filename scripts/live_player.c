@@ -1,6 +1,6 @@
 /*
- * Plays a ramp of 20000 frames on /dev/dsp in the way that its word says, and tests what it is told: a program for scripts/trials_live.py.
- * Frame k is k on both sides, 16 bits, 48000 Hz. Its status is 0 where all was as it should be, and else it tells what wasn't.
+ * Plays a ramp of 20000 frames on /dev/dsp in the way that its word says, and tests its answers: a program for scripts/trials_live.py.
+ * Frame k is k on both sides, 16 bits, 48000 Hz. Its status is 0 where all was as it should be, and else it prints what wasn't.
  */
 #define _GNU_SOURCE
 #include <errno.h>
@@ -111,7 +111,7 @@ static void by_epoll(void) {
     close(fd);
 }
 
-/* A full ring is refused at once, and a question that is asked until there is room comes to an end. */
+/* A full ring is refused at once, and a question that is asked until there is room ends. */
 static void by_asking(void) {
     int fd = opened(O_WRONLY), refused = 0;
     need(fcntl(fd, F_SETFL, fcntl(fd, F_GETFL) | O_NONBLOCK) == 0, "no flag");
@@ -235,7 +235,7 @@ static void by_map(int is_polled) {
     close(fd);
 }
 
-/* A device is there as its paths tell, and what it was told to be. */
+/* A device is there as its paths say, and as it was set to be. */
 static void by_looks(void) {
     struct stat is;
     need(stat("/dev/dsp", &is) == 0 && S_ISCHR(is.st_mode), "stat finds no device");

@@ -2,7 +2,7 @@
 
 In a stage, in the engine, in the calls over it and in all below these, what takes memory stands in a function that is handed an allocator,
 or is a word that scripts/takes-memory.txt has for its file. Of a crate whose functions are handed the heap anyway, as the library for C, that
-list has the functions that may take from it. Behind the call that creates a file nothing takes memory.
+list has the functions that may take from it. After the call that creates a file nothing takes memory.
 """
 import collections
 import re
@@ -92,7 +92,7 @@ def taken_without_an_allocator(code_by_file, words):
 
 
 def behind(code, at):
-    """Where the text begins that runs after a call at a place: behind the call, or behind the other arms where it is an arm."""
+    """Where the text begins that runs after a call at a place: after the call, or after the other arms where it is an arm."""
     at = closing(code, at, "()")
     if code[at:].lstrip().startswith(","):
         depth = 0
@@ -114,7 +114,7 @@ def creating(code_by_file):
 
 
 def taken_behind_a_file(code_by_file, words):
-    """What takes memory, or may, behind a call that creates a file."""
+    """What takes memory, or may, after a call that creates a file."""
     calls = creating(code_by_file)
     for file, code in sorted(code_by_file.items()):
         for function in functions(code):

@@ -1,7 +1,7 @@
 """The names and clauses that pages cite: the part of scripts/tidy-check that looks them up.
 
 Each name in back quotes is declared that is a path, as `Owner::member` or `Module.word`, or that has an underscore or a capital inside, and a
-path's last name is declared in what stands before it; so are the names behind a path, as in `Owner::one`, `other`, and those before a module,
+path's last name is declared in what stands before it; so are the names after a path, as in `Owner::one`, `other`, and those before a module,
 as in `word`, `other` (Module). A clause that is cited as `function: label` is one that the function promises, and a table of constants has their
 numbers. Names of others stand in scripts/names-of-others.txt.
 """
@@ -14,10 +14,10 @@ OTHERS = ROOT / "scripts" / "names-of-others.txt"
 # a block of code, and what was refused, which nothing declares; a text in back quotes
 BLOCK = re.compile(r"(?ms)^```.*?^```$|\*Refused\.\*.*?(?=\*[A-Z]|\n)")
 QUOTED = re.compile(r"`([^`\n]+)`")
-# a name by itself, or behind what it is declared in
+# a name by itself, or after what it is declared in
 NAME = re.compile(r"(?<![\w./<-])(?:[A-Za-z_][\w-]*(?:::|\.))*[A-Za-z_][\w-]*(?![\w./>-]|::)")
 WORD = re.compile(r"[A-Za-z_]\w*(?:-\w+)*")
-# names behind a path of the same type or behind their crate, and names before the module that declares them
+# names after a path of the same type or after their crate, and names before the module that declares them
 BEHIND = re.compile(r"`(\w+)::\w+`((?:, `\w+`(?!:))+)|`(pcm_\w+|feed_\w+)`: ((?:`\w+`, )*`\w+`)")
 BEFORE = re.compile(r"((?:`[\w-]+`, )*`[\w-]+`) \((?:`(\w+)` )?([A-Z]\w+)\)")
 # of .rt: what has members, and the members

@@ -34,7 +34,7 @@ def body_of(file):
 
 
 def closing(text, start, pair="{}"):
-    """Where the brackets end that are the first behind a place."""
+    """Where the brackets end that are the first after a place."""
     depth = 0
     for at in range(text.index(pair[0], start), len(text)):
         depth += {pair[0]: 1, pair[1]: -1}.get(text[at], 0)

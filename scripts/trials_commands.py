@@ -157,7 +157,7 @@ def on_a_terminal(words):
 
 
 def try_progress(program, folder):
-    """What takes longer than a second is told on a terminal: what, how far, and how long still. On no terminal it isn't."""
+    """What takes longer than a second is said on a terminal: what, how far, and how long still. On no terminal it isn't."""
     script, waits = folder / "script", slow(folder, program)
     script.write_text("intr 1024\n" * 9)
     # nine interrupts and the ring are 10240 frames of four bytes, of which 20000 bytes are there: 48 of 100

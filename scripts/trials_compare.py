@@ -17,7 +17,7 @@ close 1
 intr 16                     # ok 16
 write 1 00                  # refused badf
 """
-# two bytes of a client at 8000 last for 12 frames, and sound for six behind each. In eight bits the other client, whose sample is 2 of 32768, is
+# two bytes of a client at 8000 last for 12 frames, and sound for six after each. In eight bits the other client, whose sample is 2 of 32768, is
 # not heard
 HEARD = {0: "slot 0, opened by line 3: open 0 play s16le 2 48000,", 1: "slot 1, opened by line 4: open 1 play u8 1 8000,"}
 
@@ -76,7 +76,7 @@ def try_compare_examples(program, folder):
 
 
 def try_places(program, folder):
-    """Frames of two channels that differ in three places, by 1, by 2 and 3, and by 7; and more places than are told one by one."""
+    """Frames of two channels that differ in three places, by 1, by 2 and 3, and by 7; and more places than are printed one by one."""
     one, two = folder / "one", folder / "two"
     frames = [0] * 2000
     one.write_bytes(b"".join(it.to_bytes(2, "little") for it in frames))
@@ -108,7 +108,7 @@ write 1 00                  # Refused busy
 close 7                     # refused badf\t with a tab
 intr 1                      # what an ok is
 """
-# what is told of them: the first slot was taken, four bytes and two were accepted, and one more has room
+# what is printed of them: the first slot was taken, four bytes and two were accepted, and one more has room
 TOLD = """line 2: `ok 0 the first slot` is no answer: two blanks or a # part it from a comment; as it should be:
 open 1 play u8 1 8000       # ok 1
 line 3: `ok 3` isn't what it is answered; as it should be:

@@ -45,7 +45,7 @@ ioctl 0 post
 intr 5
 intr 16
 """
-# the frame of OUT, and what is told of each slot: behind 16 frames of the ring's silence the first run gives positions 0 and 1, and is over
+# the frame of OUT, and what is said of each slot: after 16 frames of the ring's silence the first run gives positions 0 and 1, and is over
 # with 19 frames handed over; the second begins at position 19. Outputs 0 to 3 of the slow client lie at its frames 0, 0.5, 1 and 1.5, of which
 # 0 needs frame 0 and 1. The mapped one starts at position 3: frame 18 of its run is that of the area at 18 - 16.
 SLOW = "up to frame 1 of its run 1, at 24000, was taken by then: line 7: write 1, its byte 2"
@@ -62,7 +62,7 @@ SMALL = "[device]\nhw_block = 8\nhw_blocks = 2\n"
 
 
 def try_explain(program, folder):
-    """Frames whose sums were worked by hand, one that is short, and a frame of each example: what is told last is the frame."""
+    """Frames whose sums were worked by hand, one that is short, and a frame of each example: what is said last is the frame."""
     three = next((ROOT / "examples").glob("02-*/*.script"))
     # 0.02134 seconds are 1024.3 frames, and the first frame of the mix is handed over 1024 later
     for words in (["1024"], ["0.02134"], ["0:00.02134"], [".02134s"], ["0", "--mix"], ["0s", "--mix"]):
@@ -82,7 +82,7 @@ def try_explain(program, folder):
 
 
 def told_of(program, script, config, position, folder=ROOT):
-    """What is told of the clients of a frame."""
+    """What is said of the clients of a frame."""
     return [line[2:] for line in tool("explain", script, position, *config, "--program", program, folder=folder)[1].splitlines() if line.startswith("  ")]
 
 
@@ -157,7 +157,7 @@ def written(descriptor, value, count):
 
 
 # a client of 1000, 9000 from its frame 1500 on, whose slot is set to a half, muted and let be heard, under a master that is set to a half;
-# a loud one that is halted; a shortage, and what comes behind it until its end. Frames are handed over 1024 later than they are mixed
+# a loud one that is halted; a shortage, and what comes after it until its end. Frames are handed over 1024 later than they are mixed
 CLICKS = [
     "open 0 play s16le 1 48000", "open 1 play s16le 1 48000", written(0, 1000, 1000), written(0, 1000, 500), written(0, 9000, 500), "ioctl 0 post", "intr 64",
     "mixer slot 0 0x3232", "intr 64", "mixer mute 0 1", "intr 64", "mixer mute 0 0", "intr 64", "mixer master 0x3232", "intr 64", "mixer master 0x6464",

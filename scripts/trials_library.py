@@ -52,7 +52,7 @@ def told(name, wrong, right):
 
 
 def ends_right(name, words, **how):
-    """Whether a run ends with 0. What it printed last is told then, and else more of it."""
+    """Whether a run ends with 0. What it printed last is shown then, and else more of it."""
     status, said = played(words, stderr=subprocess.STDOUT, **how)
     return told(name, ((f"{said.strip()[-800:]}, status {status}", status != 0),), said.strip().rpartition("\n")[2])
 
@@ -73,7 +73,7 @@ def names_are_hidden(_):
 
 
 def level_is_told(_):
-    """No instruction is of a processor above the level that docs/EMBEDDING.md tells."""
+    """No instruction is of a processor above the level that docs/EMBEDDING.md states."""
     read = ["objdump", "-d", "--no-show-raw-insn", BIN / ARCHIVE]
     lines = subprocess.run(read, stdout=subprocess.PIPE, universal_newlines=True, check=True).stdout.splitlines()
     found = {it.split("\t")[1].split()[0] for it in lines if "\t" in it}

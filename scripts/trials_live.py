@@ -1,6 +1,6 @@
 """Trials of tools/live: programs that play, record, map and wait in every way, as they are heard, and as the scripts of what they did.
 
-They need the library, so scripts/trials_library.py makes them. Each run is replayed by the tool itself: its status tells.
+They need the library, so scripts/trials_library.py makes them. Each run is replayed by the tool itself: its status is the result.
 """
 import concurrent.futures
 import math
@@ -71,7 +71,7 @@ def try_live_records(program, folder):
 
 
 def try_live_ends(program, folder):
-    """What goes wrong is told in a line, with a status of its own."""
+    """What goes wrong is said in a line, with a status of its own."""
     made = player(folder)
     (folder / "text").write_text("no program\n")
     usual = ["--fast", "--program", program]
@@ -98,7 +98,7 @@ def try_live_ends(program, folder):
 
 
 def try_live_replays(program, folder):
-    """A replay with another reply, or with other bytes, is told."""
+    """A replay with another reply, or with other bytes, is reported."""
     made = player(folder)
     for what, shell in (("replies", f"{program} \"$@\" | sed 5s/ok/no/"), ("bytes", f"{program} \"$@\"; printf x >>\"$3\"")):
         (folder / "liar").write_text(f"#!/bin/sh\n{shell}\n")
@@ -164,7 +164,7 @@ def try_live_breaks(program, folder):
         equal(f"a wave by signal {number}", wave_of(folder / "x.wav").size, (folder / "x.wav").stat().st_size - 44)
 
 
-# what no system tells, or has no call for
+# what no system answers, or has no call for
 KNOWN = "open * | ok * | ok *   # the slot\nopen * map* | refused busy | ok *   # it is opened to play, and mapped then\nmixer * | not performed | *\n"
 
 

@@ -17,13 +17,13 @@ SOUND = "".join(f"write 0 {random.Random(at).getrandbits(8 * 64):0128x}\n" for a
 
 
 def tone_of(said, hertz):
-    """The gain that a sweep tells at so many Hz."""
+    """The gain that a sweep prints at a number of Hz."""
     return next((line.split("gain")[1].split("dB")[0].strip() for line in said.splitlines() if line.split()[:2] == [str(hertz), "Hz"]), said)
 
 
 def try_filter(program, folder):
-    """Each row comes to one, so that a constant passes as it is. Two taps in two rows are lines to twice the rate: a tone of w between
-    two outputs comes to (1 + cos w) / 2 of it."""
+    """Each row adds up to one, so that a constant passes as it is. Two taps in two rows are lines to twice the rate: a tone of w between
+    two outputs is (1 + cos w) / 2 of it."""
     status, table = tool("filter", 8000, 12000, 12, 16)
     rows = [[int(number) for number in row.split(",")] for row in re.findall(r"(?m)^\[([-\d,]+)\],$", table)]
     shift = int(re.search(r"(?m)^shift = (\d+)$", table)[1])

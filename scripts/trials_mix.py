@@ -24,7 +24,7 @@ def try_mix_alone(program, folder):
 
 
 def summed(parts):
-    """The sum of rows of frames of two samples, limited to 16 bits behind each."""
+    """The sum of rows of frames of two samples, limited to 16 bits after each."""
     for at in range(max(map(len, parts))):
         sums = [0, 0]
         for part in parts:
@@ -34,7 +34,7 @@ def summed(parts):
 
 
 def try_mix_together(program, folder):
-    """Three waves come to the limited sum of what each is converted to, each from where it starts."""
+    """Three waves become the limited sum of what each is converted to, each from where it starts."""
     waves = [noise(folder, "s16le", 2, 48000), noise(folder, "u8", 1, 22050), noise(folder, "s24le", 6, 192000)]
     starts = (0, 480, 481)
     words = [word for wave, start in zip(waves, starts) for word in ("--at", start / 48000, wave)]
@@ -111,7 +111,7 @@ def try_mix_words(program, folder):
 
 
 def try_mix_limits(program, folder):
-    """30000 and 10000 come to 40000, which is 1.74 dB above 32767; at 81 of 100 the sum is 32400, and at 82 it is 32800."""
+    """30000 and 10000 are 40000, which is 1.74 dB above 32767; at 81 of 100 the sum is 32400, and at 82 it is 32800."""
     one, two = steady(folder, "one.wav", [30000, -30000, 100, 5] * 100), steady(folder, "two.wav", [10000, -10000, 100, 5] * 100)
     equal("limits", called("mix", "--program", program, one, two, folder / "out.wav"), (
         0, "", "mix: 200 samples were limited: 1.8 dB less is enough, which is 81 % of each wave's volume\n"))

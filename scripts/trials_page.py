@@ -29,7 +29,7 @@ def paged(program, script, configs, folder, *words):
 
 
 def told_in(out):
-    """What the file tells."""
+    """What the file says."""
     return json.loads(zlib.decompress(base64.b64decode(re.search(r'id="told">([^<]*)<', out.read_text())[1])))
 
 
@@ -145,7 +145,7 @@ def try_page_script(program, folder):
         equal("the last frame", (frame_of(tab), tab.value("document.querySelector('.chosen').dataset.line")), (3327, "10"))
         tab.key("Home")
         tab.key("n")
-        # behind frame 0 the first that happens is a shortage, at frame 1024
+        # after frame 0 the first that happens is a shortage, at frame 1024
         equal("what happens next", (frame_of(tab), text_of(tab, "status").startswith("slot 0 is short from frame 1024 to 1535")), (1024, True))
         tab.value("(() => { const it = document.getElementById('search'); it.value = 'OK 3072'; it.dispatchEvent(new Event('input')); })()")
         equal("what is found", (text_of(tab, "found"), tab.value("document.querySelector('.chosen').dataset.line")), ("1 of 1", "9"))
@@ -253,7 +253,7 @@ def try_page_size(program, folder):
 
 
 def try_page_words(program, folder):
-    """What is wrong is told in a line."""
+    """What is wrong is said in a line."""
     short = ROOT / "examples" / "03-a-shortage" / "a_shortage.script"
     for words in (["--megabytes", "0", short], ["--from", "x", short], [short, short, short], ["-", "-"]):
         status, said, errors = called("page", *words, "--program", program)

@@ -151,7 +151,7 @@ def try_kept_frames(program, folder):
 
 def try_windows(program, folder):
     """A part of a picture, by frames and by seconds: 0.02 s are 960 frames, 0.03 are 1440, of interrupts of 768 frames. What is left out,
-    what is told, and to whom a row belongs."""
+    what is said, and to whom a row belongs."""
     script = next((ROOT / "examples").glob("03-*/*.script"))
     for begin, end in (("960", "1440"), ("0.02", "0:00.03"), ("0.02s", ".03s")):
         out = folder / "part.svg"
@@ -180,13 +180,13 @@ def try_long_pictures(program, folder):
         lines += ["ioctl 0 post"] * (at in (0, 1500)) + ["intr 4"] + ["ioctl 0 halt"] * (at == 1499)
     script.write_text("\n".join(lines) + "\n")
     said = drawn(program, script, [], folder)[1]
-    # the halt comes behind 1500 interrupts, and the post before the next: it plays from then on again
+    # the halt comes after 1500 interrupts, and the post before the next: it plays from then on again
     equal("a long script", {"slot 0 is short from frame 4000 to 4003", "slot 0 plays from frame 0 to 7999"} - set(said), set())
     equal("how large it is", (folder / "drawn.svg").stat().st_size < 100000, True)
 
 
 def try_own_limits(program, folder):
-    """A client's own stages are at their limit in 20 frames of a mix of twice the device's rate: 40 to 59, behind the 48 of the device."""
+    """A client's own stages are at their limit in 20 frames of a mix of twice the device's rate: 40 to 59, after the 48 of the device."""
     script, config = folder / "twice", folder / "twice.toml"
     written = "".join(struct.pack("<hh", value, value).hex() * count for value, count in ((100, 40), (10000, 20), (100, 20)))
     script.write_text("\n".join(["open 0 play s16le 2 48000", f"write 0 {written}", "close 0", *["intr 8"] * 6]) + "\n")

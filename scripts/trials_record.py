@@ -46,7 +46,7 @@ fcntl.ioctl(fd, 0x40045010, struct.pack("i", 0))
 area.close()
 os.close(fd)
 """
-# a recorder: it asks for settings, and reads until it has so many bytes
+# a recorder: it asks for settings, and reads until it has `count` bytes
 RECORDER = """import fcntl, os, struct, sys
 fd = os.open("/dev/dsp", os.O_RDONLY)
 code, channels, rate, count = map(int, sys.argv[1:])
@@ -125,7 +125,7 @@ def end_by(number, is_group, words, waits):
 
 
 def try_record_ends(program, folder):
-    """However a recording ends, its script has whole lines, or is what it was, and a line tells of a fault."""
+    """However a recording ends, its script has whole lines, or is what it was, and a line reports a fault."""
     (folder / "player").write_text(ENDS)
     words, script = ["--", sys.executable, folder / "player"], folder / "recorded"
     for number, is_group, status in ((signal.SIGINT, True, 130), (signal.SIGTERM, False, 143)):
