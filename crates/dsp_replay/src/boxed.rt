@@ -17,7 +17,7 @@ use pcm_outside::{Files, Sink};
 use pcm_replay::dsp_main;
 use std::alloc::Global;
 
-/// Makes the racks of a run, and does with them what the words ask for. The status that the program ends with.
+/// Makes the racks of a run, does with them what the words ask for, and returns the status that the program ends with.
 // No function returns boxes, so the run is called where its racks are made.
 pub fn run_boxed<F: Files, K: Sink>(
     alloc: Global,

@@ -1,6 +1,6 @@
 //! Runs a script of client calls and interrupts, and writes the device's bytes and the replies; judges a script; converts a wave; runs the
 //! script that a number makes.
-//! It hands `dsp_main` of `pcm_replay` its words, the real files, standard output, and 33 racks of boxed feeders.
+//! It gives `dsp_main` of `pcm_replay` its words, the real files, standard output, and 33 racks of boxed feeders.
 #![tactic(auto)]
 
 ghost use Rattle.std.specs.Prelude.{◌≡◌, ◌≢◌, ◌⊎◌, None};

@@ -3,7 +3,7 @@
 use crate::numbers::four_at;
 use std::io::{Read, Seek, SeekFrom};
 
-// The chunks that are looked at.
+// How many chunks are looked at, at most.
 const CHUNKS: u32 = 4096;
 
 // Where the first chunk stands.

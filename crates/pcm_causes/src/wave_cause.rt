@@ -1,4 +1,4 @@
-//! What of a wave is refused.
+//! What is refused of a wave.
 
 use crate::again::reopened;
 use crate::chunk::{chunk_named, fills};

@@ -1,4 +1,4 @@
-//! What of a wave's format isn't supported.
+//! What isn't supported of a wave's format.
 
 ghost use Rattle.std.specs.Prelude.{◌≡◌, length};
 
@@ -9,7 +9,7 @@ use pcm_format::{RATE_LEAST, RATE_MOST};
 // The bytes of a format that are looked at, which an extensible one has.
 pub(crate) const FORMAT_BYTES: usize = 40;
 
-// The bytes that each has.
+// The bytes that every format has.
 const PLAIN_BYTES: u32 = 16;
 
 // The tag of integer samples, and that of an extensible format, which names a tag further down.

@@ -58,7 +58,7 @@ pub data CutsOutput (output : Output) (before after : Outside) : Type 0 where
   AtAppend : (written : Written) → output.file ≡ Some written → CutAtAppend written before after → CutsOutput output before after
   AtPut : CutAtPut output before after → CutsOutput output before after
 
--- how it ended before its end: cut short, or for want of memory, before anything was done
+-- how it ended early: cut short, or for want of memory, before anything was done
 abbrev pub EndsOutput : Output → Outside → Outside → Ending → Type 0
 EndsOutput output before after CannotWrite = CutsOutput output before after
 EndsOutput output before after NoMemory = after ≡ before

@@ -29,7 +29,7 @@ area_of channel = take (ring_bytes channel.book.opening) (fixed_items channel.ar
 abbrev pub IsMapPlanned : {B : Type 0} → Filters → MapChannelOf B → Type 0
 IsMapPlanned filters channel = IsPlanned Map filters channel.book.opening.settings channel.path
 
--- and so it is of a channel that isn't free: of a free one no plan is asked
+-- the same of a channel that isn't free; of a free one nothing is said
 abbrev pub IsMapServed : {B : Type 0} → Filters → MapChannelOf B → Type 0
 IsMapServed filters channel = is_map_free channel.book.state ≡ false → IsMapPlanned filters channel
 

@@ -62,7 +62,7 @@ open-closed rate here (Draining closed) book is used = refl
 pub closed-held : (rate : Rate) (here : Here) (book : PlayBook) → is_play_free (close_turn rate here book).state ≡ false → is_play_free book.state ≡ false
 closed-held rate here book used = open-closed rate here book.state book refl used
 
--- what isn't draining is left as it is by frames that are handed over
+-- what isn't draining is left as it is by a hand-over
 stays-settled : (rate : Rate) (passed : ℤ) (state : PlayState) (book : PlayBook) → is_draining state ≡ false → play_settled_in rate passed state book ≡ book
 stays-settled rate passed Free book other = refl
 stays-settled rate passed Setup book other = refl

@@ -112,7 +112,7 @@ leaves_left now old new ratio rate safe leaves = record {
   goes = λ some. elim leaves.counts [ inl kept ↦ kept | inr over ↦ absurd (some over.written) ];
 }
 
--- a close, or frames that are handed over, which leave settings and fragments besides
+-- a close or a hand-over, which leave settings and fragments besides
 pub record Closed (now : Rate) (old new : PlayBook) : Type 0 where
   pub left : Left now old new
   pub keeps : Keeps old new
@@ -129,7 +129,7 @@ book-closed old here new between plan turned rate_is plan_is =
       keeps = keeps;
     }
 
--- frames that are handed over leave them too
+-- a hand-over leaves them too
 pub book-settled : {B : Type 0} (old : PlayChannelOf B) (passed : ℤ) (new : PlayBook) (between : Rate) (plan : PlanSeen)
     → new ≡ play_settled between passed old.book → between ≡ rate_in_plan plan → plan ≡ plan_in old.path.chain → Closed (rate_in_plan (plan_in old.path.chain)) old.book new
 book-settled old passed new between plan turned rate_is plan_is =

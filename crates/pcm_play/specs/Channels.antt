@@ -27,7 +27,7 @@ waiting_of book bytes = drop (book.eaten * frame_bytes book.opening.settings) by
 abbrev pub IsPlayPlanned : {B : Type 0} → Filters → PlayChannelOf B → Type 0
 IsPlayPlanned filters channel = IsPlanned Play filters channel.book.opening.settings channel.path
 
--- and so it is of a channel that isn't free: of a free one no plan is asked
+-- the same of a channel that isn't free; of a free one nothing is said
 abbrev pub IsPlayServed : {B : Type 0} → Filters → PlayChannelOf B → Type 0
 IsPlayServed filters channel = is_play_free channel.book.state ≡ false → IsPlayPlanned filters channel
 
@@ -70,7 +70,7 @@ pub record MayEndRun {B : Type 0} (kind : B → Kind) (channel : PlayChannelOf B
 abbrev pub ClosesBook : {B : Type 0} → Here → PlayChannelOf B → PlayChannelOf B → Type 0
 ClosesBook here old new = (filters : Filters) → IsPlayServed filters old → new.book ≡ closing (seen filters old.path.device) here old.book
 
--- and so do frames that are handed over
+-- and so does a hand-over
 abbrev pub SettlesBook : {B : Type 0} → Here → PlayChannelOf B → PlayChannelOf B → Type 0
 SettlesBook here old new = (filters : Filters) → IsPlayServed filters old → new.book ≡ play_settled (play_rate_at (seen filters old.path.device) old.book) here.passed old.book
 

@@ -153,7 +153,7 @@ impl<B: Feeder> PlayChannelOf<B> {
         }
     }
 
-    /// Frames were handed over: a draining run of which nothing is left to pass ends.
+    /// After a hand-over: a draining run of which nothing is left to pass ends.
     pub fn settle(&mut self, here: Here)
         requires { MayEndRun B.kind self.old }
         ensures book { SettlesBook here self.old self.new }

@@ -23,7 +23,7 @@ pub(crate) fn count_reason(alloc: Global, top: &Table, place: ConfigPlace) -> Op
     }
 }
 
-// What is wrong in the first table that has such a fault, or of the array itself.
+// What is wrong in the first table that has a fault of this kind, or with the array itself.
 pub(crate) fn array_reason(alloc: Global, top: &Table, refusal: ConfigRefusal) -> Option<String> {
     let place = refusal.place.word();
     let value = top.get(place)?;

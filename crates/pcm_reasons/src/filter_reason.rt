@@ -9,7 +9,7 @@ use pcm_format::{RATE_LEAST, RATE_MOST};
 use std::alloc::{AllocError, Global};
 use toml::{Table, Value};
 
-// What is wrong in a filter in such a way, if something is.
+// What fault of this kind a filter has, if it has one.
 pub(crate) fn filter_reason(alloc: Global, filter: &Table, kind: ConfigKind) -> Option<String> {
     match kind {
         ConfigKind::Missing => String::from_str(alloc, missing(filter)?).ok(),

@@ -24,7 +24,7 @@ const WAYS: [Way; 3] = [Way::Play, Way::Record, Way::Map];
 
 const CONTROLS: [Control; 3] = [Control::Master, Control::Slot, Control::Mute];
 
-// The names that are listed of files.
+// How many names of files are listed at most.
 pub(crate) const FILES_LISTED: usize = 8;
 
 /// All commands, as a list.

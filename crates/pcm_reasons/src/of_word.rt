@@ -15,8 +15,8 @@ struct WrongWord<'a> {
     word: &'a [u8],
 }
 
-/// Why the first word is wrong that is so in this way, after a command, and what would be right. `body` is how long the file is
-/// that a send names.
+/// What is wrong with the first word after a command that has a fault of this kind, and what would be right. `body` is how long
+/// the file is that a send names.
 pub fn word_reason(
     alloc: Global,
     config: &Config,

@@ -8,7 +8,7 @@ use pcm_feeder::{SECTION_COEF_MOST, SECTION_SHIFT_MOST};
 use std::alloc::{AllocError, Global};
 use toml::{Table, Value};
 
-// What is wrong in a section in such a way, if something is.
+// What fault of this kind a section has, if it has one.
 pub(crate) fn section_reason(alloc: Global, section: &Table, kind: ConfigKind) -> Option<String> {
     for key in SECTION_KEYS {
         if is_wrong(kind, key, section.get(key)) {
@@ -18,7 +18,7 @@ pub(crate) fn section_reason(alloc: Global, section: &Table, kind: ConfigKind) -
     None
 }
 
-// Whether what stands at a key is wrong in such a way. A wrong shift is out of range, and another number a coefficient.
+// Whether what stands at a key has a fault of this kind. A wrong shift is out of range, and any other wrong number a wrong coefficient.
 fn is_wrong(kind: ConfigKind, key: &str, value: Option<&Value>) -> bool {
     let Some(value) = value else {
         return kind == ConfigKind::Missing;

@@ -2,7 +2,7 @@
 
 use std::alloc::{AllocError, Global};
 
-// The bytes that are shown of a line, and of a word.
+// How many bytes are shown of a line, and of a word, at most.
 const SHOWN: usize = 80;
 
 const SHOWN_OF_A_WORD: usize = 40;

@@ -8,7 +8,7 @@ use pcm_config::{ConfigPlace, FILE_NAME_BYTES, range_at};
 use std::alloc::{AllocError, Global};
 use toml::Table;
 
-// What number stands at a place, and which may. One that may by itself is too great beside others.
+// Which number stands at a place, and which may stand there. One that may by itself is too great beside others.
 pub(crate) fn range_reason(alloc: Global, top: &Table, place: ConfigPlace) -> Option<String> {
     let number = value_at(top, place)?.as_integer()?;
     match range_at(place) {
@@ -39,7 +39,7 @@ pub(crate) fn outside_said(
     format!(in alloc; "{place}: {number} is not {least} to {most}")
 }
 
-// What name stands at a place, and which there are.
+// Which name stands at a place, and which there are.
 pub(crate) fn name_reason(alloc: Global, top: &Table, place: ConfigPlace) -> Option<String> {
     match place {
         ConfigPlace::DeviceFormat => {
@@ -55,7 +55,7 @@ pub(crate) fn name_reason(alloc: Global, top: &Table, place: ConfigPlace) -> Opt
     }
 }
 
-// The first file whose name or path can't be.
+// The first file whose name or path isn't allowed.
 fn file_reason(alloc: Global, files: &Table) -> Option<String> {
     for (name, path) in files {
         if !is_file_name(name.as_str().as_bytes()) {

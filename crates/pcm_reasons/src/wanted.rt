@@ -97,7 +97,7 @@ fn wanted_of_request(arguments: &[&[u8]]) -> &'static [Wanted] {
     }
 }
 
-// Whether a word is wrong in this way, where it should be what is wanted.
+// Whether a word has a fault of this kind where it stands for what is wanted.
 pub(crate) fn is_wrong(config: &Config, kind: ScriptKind, wanted: Wanted, word: &[u8]) -> bool {
     match kind {
         ScriptKind::Number => is_number(wanted) && number_in(word).is_err(),

@@ -1,4 +1,4 @@
-//! What of a configuration doesn't go together.
+//! Which values of a configuration don't go together.
 
 use crate::listed;
 use crate::of_config::{text_at, value_at};

@@ -31,7 +31,7 @@ unread_of book bytes = drop book.read bytes
 abbrev pub IsRecordPlanned : {B : Type 0} → Filters → RecordChannelOf B → Type 0
 IsRecordPlanned filters channel = IsPlanned Record filters channel.book.opening.settings channel.path
 
--- and so it is of a channel that isn't free: of a free one no plan is asked
+-- the same of a channel that isn't free; of a free one nothing is said
 abbrev pub IsRecordServed : {B : Type 0} → Filters → RecordChannelOf B → Type 0
 IsRecordServed filters channel = is_record_free channel.book.state ≡ false → IsRecordPlanned filters channel
 

@@ -19,7 +19,7 @@ use Rattle.pcm_replay.specs.Outcomes.{CannotReadOne, IsCut, LacksMemory, Refuses
 use Rattle.pcm_inputs.specs.Reads.{Comes, CutsLine, FailsToReadOne, Lacks, RefusesPart}
 use Rattle.pcm_converting.specs.Written.{WritesAll}
 
--- what a call did that ended before its end
+-- what a call did that ended early
 abbrev pub EndsCall : Call → Ending → Type 0
 EndsCall call Usage = RefusesWords call
 EndsCall call CannotRead = CannotReadOne call
@@ -33,7 +33,7 @@ EndsCall call NoMemory = LacksMemory call
 abbrev pub Does : Accepted → Outside → Outside → Type 0
 Does accepted before after = WritesAll (output_of accepted) before after
 
--- how what was accepted ended before its end
+-- how what was accepted ended early
 abbrev pub Cuts : Accepted → Outside → Outside → Ending → Type 0
 Cuts accepted before after CannotWrite = CutsCall accepted before after
 Cuts accepted before after NoMemory = after ≡ before
@@ -71,7 +71,7 @@ pub data IsCommandCut (command : Command) (before after : Outside) : Type 0 wher
   InLine : CutsLine (command_part command) before after → IsCommandCut command before after
   InAccepted : CutsCommand command before after → IsCommandCut command before after
 
--- what a command did that ended before its end
+-- what a command did that ended early
 abbrev pub EndsCommand : Command → Outside → Outside → Ending → Type 0
 EndsCommand command before after Usage = ⊥
 EndsCommand command before after CannotRead = FailsToReadOne (command_part command) before after

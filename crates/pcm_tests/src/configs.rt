@@ -25,7 +25,7 @@ fn usual(alloc: Global) -> Outcome {
     settled(&default_config(alloc))
 }
 
-// What comes of a text.
+// The outcome of a text.
 fn outcome(alloc: Global, text: &[u8]) -> Outcome {
     match config_of(alloc, text) {
         Ok(config) => settled(&config),
@@ -34,7 +34,7 @@ fn outcome(alloc: Global, text: &[u8]) -> Outcome {
     }
 }
 
-// Copies of a text, one text more, and what is to come of them.
+// How many copies of a text, one text more, and their outcome.
 type Row = (usize, &'static [u8], &'static [u8], Outcome);
 
 const ROWS: [Row; 19] = [

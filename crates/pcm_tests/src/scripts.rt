@@ -11,7 +11,7 @@ use std::test::Fail;
 // How many events a text gives, or the line that is refused and why.
 type Outcome = Result<usize, (u32, &'static str)>;
 
-// What comes of a text.
+// The outcome of a text.
 fn outcome(alloc: Global, text: &[u8]) -> Outcome {
     match script_of(alloc, text, &Device::usual(), &[]) {
         Ok(script) => Ok(script.events.as_slice().len()),
@@ -20,7 +20,7 @@ fn outcome(alloc: Global, text: &[u8]) -> Outcome {
     }
 }
 
-// A text, and what is to come of it.
+// A text, and its outcome.
 type Row = (&'static [u8], Outcome);
 
 const TEXTS: [Row; 53] = [
