@@ -50,6 +50,9 @@ extern "C" {
 /* Of this header: the major number * 65536 + the minor one * 256 + that of the patch. dsp_engine_version answers the library's. */
 #define DSP_ENGINE_VERSION 0x00020000
 
+/* The release of dsp_replay that this header is of. The library keeps a version of its own. */
+#define DSP_RELEASE "0.2.0"
+
 /* ---- what calls answer ---- */
 
 /* The ring has no room for a write now, or no byte for a read. */
