@@ -1,35 +1,13 @@
 -- What callers need of groups: the group of a slot after one was set, and what each slot has once a group changed.
-use Rattle.std.proofs.Common.{◌≡◌, ◌≢◌, ℕ, zero, suc, ◌+◌, ◌<◌, Bool, true, false, cond, List, [], ◌∷◌, ◌++◌, length, drop, map, set, get_or, inl, inr, refl, sym, ap, ◌∙◌, arith, get_or-set_same, get_or-set_other}
-use Rattle.std.specs.Prelude.{eqb, ◌&&◌, ◌||◌, not, filter}
-use Rattle.std.specs.List.{range_with_len}
-use Rattle.std.proofs.lemmas.List.Elements.{filter-append}
+use Rattle.std.proofs.Common.{◌≡◌, ◌≢◌, ℕ, zero, suc, ◌+◌, ◌<◌, Bool, true, false, cond, List, [], ◌∷◌, length, drop, set, get_or, inl, inr, refl, sym, ap, ◌∙◌, arith, get_or-set_same, get_or-set_other}
+use Rattle.std.specs.Prelude.{eqb, ◌&&◌, ◌||◌, not}
 use Rattle.std.proofs.lemmas.Bool.{and_parts, cases_lt}
 use Rattle.std.proofs.lemmas.Bool.Decides.{nat_tests}
-use Rattle.std.proofs.lemmas.List.{append_assoc, get_or_past, map-append, set_past}
+use Rattle.std.proofs.lemmas.List.{get_or_past, set_past}
 use Rattle.pcm_oss.specs.declared.event.Way.{Way}
 use Rattle.pcm_oss.specs.declared.event.Way.TheVariants.{Play, Record, Map}
 use Rattle.pcm_group.specs.declared.sync_groups.Groups.{Groups}
 use Rattle.pcm_group.specs.Groups.{all_in, change_in, dissolved, dissolved_in, group_at, is_used, with_group}
-
--- ---- the members of a group
-
-range_more : (a n k : ℕ) → a + n ≡ k → range_with_len a (suc n) ≡ range_with_len a n ++ k ∷ []
-range_more a zero k e = ap (λ (j : ℕ). j ∷ []) (let is : a ≡ k = omega arith in is)
-range_more a (suc n) k e = ap (λ (rest : List ℕ). a ∷ rest) (range_more (a + 1) n k (omega arith))
-
--- what is appended of one slot more
-pub members-more : {X : Type 0} (front : List X) (member : ℕ → X) (p : ℕ → Bool) (n : ℕ)
-    → (front ++ map member (filter p (range_with_len 0 n))) ++ cond (p n) (member n ∷ []) [] ≡ front ++ map member (filter p (range_with_len 0 (n + 1)))
-members-more {X = X} front member p n =
-    append_assoc front (map member (filter p (range_with_len 0 n))) (cond (p n) (member n ∷ []) [])
-    ∙ ap (λ (rest : List X). front ++ rest)
-    (ap (λ (rest : List X). map member (filter p (range_with_len 0 n)) ++ rest) (one (p n))
-    ∙ sym (map-append member (filter p (range_with_len 0 n)) (cond (p n) (n ∷ []) []))
-    ∙ ap (map member) (sym (filter-append p (range_with_len 0 n) (n ∷ [])) ∙ ap (filter p) (sym (range_more 0 n n (omega arith)) ∙ ap (range_with_len 0) (let is : suc n ≡ n + 1 = omega arith in is))))
-  where
-    one : (b : Bool) → cond b (member n ∷ []) [] ≡ map member (cond b (n ∷ []) [])
-    one true = refl
-    one false = refl
 
 -- ---- the group of a slot
 

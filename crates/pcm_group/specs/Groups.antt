@@ -1,5 +1,5 @@
--- Groups of slots: which slot is in which, what a slot gets that asks for one, and whose members a group has.
-use Rattle.std.specs.Prelude.{ℕ, Bool, true, false, not, ◌&&◌, ◌||◌, nat_lt, nat_le, ◌==◌, if◌then◌else◌, List, [], ◌∷◌, ◌++◌, map, filter, find, length, replicate, slice_index_or, slice_set, Option, Some, None, Result, Ok, Err}
+-- Groups of slots: which slot is in which, what a slot gets that asks for one, and what a start changes.
+use Rattle.std.specs.Prelude.{ℕ, Bool, true, false, not, ◌&&◌, ◌||◌, nat_lt, nat_le, ◌==◌, if◌then◌else◌, List, [], ◌∷◌, map, find, replicate, slice_index_or, slice_set, Option, Some, None, Result, Ok, Err}
 use Rattle.std.specs.List.{list_any, range_with_len}
 use Rattle.pcm_oss.specs.declared.event.Way.{Way}
 use Rattle.pcm_oss.specs.declared.event.Way.TheVariants.{Play, Record, Map}
@@ -66,15 +66,6 @@ groups_joined groups way slot (Err errno) = groups
 groups_joined groups way slot (Ok group) = with_group groups way slot group
 
 -- ---- the members of a group
-
--- the slots that have it, the least first
-abbrev pub slots_with : ℕ → List ℕ → List ℕ
-slots_with group slots = filter (λ slot. slice_index_or slots slot 0 == group) (range_with_len 0 (length slots))
-
--- of both ways: those that play first
-abbrev pub members_of : Groups → ℕ → List (Way × ℕ)
-members_of groups group =
-    map (λ slot. (Play, slot)) (slots_with group groups.play) ++ map (λ slot. (Record, slot)) (slots_with group groups.recording)
 
 -- the groups once its members have none
 abbrev pub dissolved_in : ℕ → List ℕ → List ℕ

@@ -3,4 +3,4 @@
 
 mod sync_groups;
 
-pub use sync_groups::{GROUPS, Groups, MEMBERS, may_join};
+pub use sync_groups::{GROUPS, Groups, may_join};

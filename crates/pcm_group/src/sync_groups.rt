@@ -1,11 +1,9 @@
 //! The group of each slot.
 
-ghost use Rattle.std.specs.Prelude.{◌≡◌, ◌<◌, ◌≤◌, ◌+◌, ◌++◌, ◌==◌, [], ◌∷◌, if◌then◌else◌, length, map};
-ghost use Rattle.arrayvec.specs.ArrayVec.{array_vec_len};
+ghost use Rattle.std.specs.Prelude.{◌≡◌, ◌<◌, ◌==◌, if◌then◌else◌};
 ghost use Rattle.pcm_oss.specs.declared.event.TheConstants.{SLOTS};
-ghost use Rattle.pcm_group.specs.Groups.{dissolved_in, has_group, may_join, slots_with};
+ghost use Rattle.pcm_group.specs.Groups.{dissolved_in, has_group, may_join};
 
-use arrayvec::ArrayVec;
 use pcm_oss::{Errno, SLOTS, Way};
 
 /// How many groups there are, which have the numbers from 1 on.
@@ -13,9 +11,6 @@ pub const GROUPS: u32 = 8;
 
 // All groups.
 const NUMBERS: [u32; GROUPS as usize] = [1, 2, 3, 4, 5, 6, 7, 8];
-
-/// How many members a group has at most: every slot of both ways.
-pub const MEMBERS: usize = 32;
 
 /// Which group each slot is in, by way: 0 is none.
 #[derive(Clone, Copy, Debug, PartialEq, Eq)]
@@ -25,7 +20,7 @@ pub struct Groups {
 }
 
 impl Groups {
-    ghost use Rattle.pcm_group.specs.Groups.{dissolved, group_at, is_used, groups_joined, joining, least_unused, members_of, no_groups, with_group};
+    ghost use Rattle.pcm_group.specs.Groups.{dissolved, group_at, is_used, groups_joined, joining, least_unused, no_groups, with_group};
 
     /// No slot is in a group.
     pub fn new() -> Groups
@@ -76,16 +71,6 @@ impl Groups {
         ensures { self.new ≡ with_group self.old way slot 0 }
     {
         self.set(way, slot, 0);
-    }
-
-    /// The slots that are in a group: those that play first, and of each way the least first.
-    pub fn members(&self, group: u32) -> ArrayVec<(Way, usize), MEMBERS>
-        ensures { result.items ≡ members_of self.now group }
-    {
-        let mut members = ArrayVec::new();
-        push_members(&mut members, Way::Play, &self.play, group);
-        push_members(&mut members, Way::Record, &self.recording, group);
-        members
     }
 
     /// Takes all slots out of this group.
@@ -146,28 +131,6 @@ fn has_group(slots: &[u32], group: u32) -> bool
     ensures { result ≡ has_group group slots.now }
 {
     slots.iter().any(|&its| its == group)
-}
-
-// Appends the slots of a way that are in the group.
-fn push_members(members: &mut ArrayVec<(Way, usize), MEMBERS>, way: Way, slots: &[u32], group: u32)
-    requires { array_vec_len members.old + length slots.now ≤ MEMBERS }
-    ensures members { members.new.items ≡ members.old.items ++ map (λ slot. (way, slot)) (slots_with group slots.now) }
-    ensures room { array_vec_len members.new ≤ array_vec_len members.old + length slots.now }
-{
-    for slot in 0..slots.len() {
-        push_where(members, slots[slot] == group, (way, slot));
-    }
-}
-
-// Appends a member, if it is one.
-fn push_where(members: &mut ArrayVec<(Way, usize), MEMBERS>, is_one: bool, member: (Way, usize))
-    requires { array_vec_len members.old < MEMBERS }
-    ensures members { members.new.items ≡ members.old.items ++ (if is_one then member ∷ [] else []) }
-    ensures room { array_vec_len members.new ≤ array_vec_len members.old + 1 }
-{
-    if is_one {
-        members.push(member);
-    }
 }
 
 // Takes the slots of a way out of the group.

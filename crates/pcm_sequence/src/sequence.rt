@@ -31,11 +31,4 @@ impl<T> Sequence<T> {
     {
         self.items.as_slice()
     }
-
-    /// Gives the elements back as a vector.
-    pub fn into_vec(self) -> Vec<T>
-        ensures { result.items ≡ self }
-    {
-        self.items
-    }
 }
