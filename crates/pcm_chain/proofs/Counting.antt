@@ -94,19 +94,7 @@ past-allowed ended rate c n ratio past = need-past rate c n ratio (omega (arith,
 
 -- ---- after a block
 
-pub goes-within : (rate : Rate) (ended : Bool) (counts : Counts) (waiting want : ℕ) (advance : Advance) → Goes rate ended counts waiting want advance
-    → (advance.eaten ≤ waiting) × (advance.given ≤ want)
-goes-within rate ended counts waiting want advance goes = (omega (arith, goes.eaten), omega (arith, goes.given))
-
--- what a block eats, with the silence, is no more than a block
-pub goes-block : (rate : Rate) (ended : Bool) (counts : Counts) (waiting want : ℕ) (advance : Advance) → IsRatio rate → Goes rate ended counts waiting want advance
-    → need rate (counts.given + want) ≤ fed_in_all rate counts + 256 → advance.eaten + advance.silent ≤ 256
-goes-block rate ended counts waiting want advance ratio goes reach =
-    let given = goes.given in
-    let used = need_grows rate (counts.given + advance.given) (counts.given + want) ratio.dst (omega arith) in
-    omega (arith, goes.eaten, goes.silent, used)
-
--- without a change of rate it eats no more frames than are wanted
+-- without a change of rate a block eats no more frames than are wanted
 pub goes-level : (rate : Rate) (ended : Bool) (counts : Counts) (waiting want : ℕ) (advance : Advance) → rate ≡ unchanged → Goes rate ended counts waiting want advance → advance.eaten + advance.silent ≤ want
 goes-level rate ended counts waiting want advance level goes =
     let given = goes.given in

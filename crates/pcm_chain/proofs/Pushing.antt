@@ -9,8 +9,6 @@ use Rattle.std.proofs.lemmas.List.Concat.{flat_map-append}
 use Rattle.std.proofs.lemmas.List.Elements.{All-nil, All-head, All-tail, All-append, All-map, All-take, All-drop}
 use Rattle.pcm_num.specs.Limit.{FitsBits}
 use Rattle.pcm_format.specs.declared.format.Format.{Format}
-use Rattle.pcm_format.specs.declared.format.Format.TheVariants.{U8, S8, S16Le, S16Be, U16Le, U16Be, S24Le, S24Be, U24Le, U24Be, S32Le, S32Be, U32Le, U32Be}
-use Rattle.pcm_format.specs.Formats.{bytes_of}
 use Rattle.pcm_format.specs.Frames.{Frame, spelled_frame, spelled_frames}
 use Rattle.pcm_format.specs.Layouts.{channels_of}
 use Rattle.pcm_format.specs.Samples.{spelled}
@@ -200,23 +198,6 @@ whole-is kept tables input offers old new start out rate frames advance stages r
     )
 
 -- ---- the bytes of a block
-
--- no sample has more than four bytes
-pub bytes_of-most : (format : Format) → bytes_of format ≤ 4
-bytes_of-most U8 = omega arith
-bytes_of-most S8 = omega arith
-bytes_of-most S16Le = omega arith
-bytes_of-most S16Be = omega arith
-bytes_of-most U16Le = omega arith
-bytes_of-most U16Be = omega arith
-bytes_of-most S24Le = omega arith
-bytes_of-most S24Be = omega arith
-bytes_of-most U24Le = omega arith
-bytes_of-most U24Be = omega arith
-bytes_of-most S32Le = omega arith
-bytes_of-most S32Be = omega arith
-bytes_of-most U32Le = omega arith
-bytes_of-most U32Be = omega arith
 
 -- what holds of the first samples holds of fewer
 pub front-each : (P : ℤ → Type 0) (n m : ℕ) (samples : List ℤ) → n ≤ m → All P (take m samples) → All P (take n samples)

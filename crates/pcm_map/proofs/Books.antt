@@ -18,7 +18,7 @@ use Rattle.pcm_plan.specs.Fits.{IsPlan}
 use Rattle.pcm_chain.specs.Chains.{plan_in}
 use Rattle.pcm_chain.specs.Counts.{IsNear}
 use Rattle.pcm_path.specs.Paths.{path_rate}
-use Rattle.pcm_chain.proofs.Counting.{need-near, rate-near}
+use Rattle.pcm_chain.proofs.Counting.{rate-near}
 use Rattle.pcm_desk.specs.declared.map_book.MapBook.{MapBook}
 use Rattle.pcm_desk.specs.declared.map_book.MapState.{MapState}
 use Rattle.pcm_desk.specs.declared.map_book.MapState.TheVariants.{Free, Setup, Running}
@@ -72,14 +72,6 @@ need-few rate given n near few =
     let most : n * (48 * rate.dst) / rate.dst ≡ n * 48 = ap (λ k. k / rate.dst) (let e : n * (48 * rate.dst) ≡ n * 48 * rate.dst = omega arith in e) ∙ mul-div_cancel (n * 48) near.ratio.dst in
     omega (arith, apart, place, most, near.lookahead)
 
--- what `given` frames need fits 64 bits, in bytes too
-pub need-fits : (rate : Rate) (settings : Settings) (given : ℕ) → IsNear rate → given < 2 ^ 50 → need rate given * frame_bytes settings < 2 ^ 62
-need-fits rate settings given near few =
-    let most = need-near rate given near in
-    let wide = frame_bytes-most settings in
-    let up = mul-le-mul_right {m = need rate given} {n = 48 * 2 ^ 50 + 33} (frame_bytes settings) (omega (arith, most)) in
-    omega (arith, up, wide)
-
 -- ---- states
 
 running_gives : (state : MapState) (rate : Rate) (n : ℕ) (book : MapBook) → is_map_running state ≡ true → map_refilled_in rate state n book ≡ map_gives rate n book
@@ -94,16 +86,6 @@ refilled-gives rate n book e = running_gives book.state rate n book e
 pub mixing-gives : (device : DeviceSeen) (n : ℕ) (book : MapBook) → 0 < n → is_map_running book.state ≡ true → map_mixing device n book ≡ map_gives (map_rate_at device book) n book
 mixing-gives device zero book some e = absurd (omega arith)
 mixing-gives device (suc n) book some e = refilled-gives (map_rate_at device book) (suc n) book e
-
-idle_stays : (state : MapState) (rate : Rate) (n : ℕ) (book : MapBook) → is_map_running state ≡ false → map_refilled_in rate state n book ≡ book
-idle_stays Free rate n book e = refl
-idle_stays Setup rate n book e = refl
-idle_stays Running rate n book e = cc
-
--- and one that hasn't started gives none
-pub mixing-idle : (device : DeviceSeen) (n : ℕ) (book : MapBook) → is_map_running book.state ≡ false → map_mixing device n book ≡ book
-mixing-idle device zero book e = refl
-mixing-idle device (suc n) book e = idle_stays book.state (map_rate_at device book) (suc n) book e
 
 -- ---- channels
 
@@ -134,14 +116,7 @@ safe-served filters channel served =
       | inr used ↦ planned-safe filters channel (served used)
     ]
 
--- counts that stay below a bound fit
-pub counts-fit : {B : Type 0} (filters : Filters) (n : ℕ) (channel : MapChannelOf B) → IsDevice (seen filters channel.path.device) → channel.book.given + n < 2 ^ 50 → CountsFit filters n channel
-counts-fit filters n channel d few =
-    let fits = need-fits (map_rate_at (seen filters channel.path.device) channel.book) channel.book.opening.settings (channel.book.given + n)
-    (rate-near (play_plan_between (seen filters channel.path.device) channel.book.opening.settings) (plan-between-fits (seen filters channel.path.device) channel.book.opening.settings d channel.rate)) few in
-    record { given = omega (arith, few); taken = omega (arith, fits) }
-
--- so do those of an interrupt that mixes fewer
+-- counts that fit at an interrupt fit at one that mixes fewer frames
 pub counts-fewer : {B : Type 0} (filters : Filters) (few n : ℕ) (channel : MapChannelOf B) → IsMapPlanned filters channel → few ≤ n → CountsFit filters n channel → CountsFit filters few channel
 counts-fewer filters few n channel p within fits =
     let rate = map_rate_at (seen filters channel.path.device) channel.book in
@@ -158,16 +133,6 @@ taken-fits filters n channel p fits =
     let none : channel.book.given + 0 ≡ channel.book.given = omega arith in
     let now = counts-fewer filters 0 n channel p (omega arith) fits in
     let taken = (planned-safe filters channel p).taken in
-    omega (arith, now.taken, ap (λ (k : ℕ). need rate k * z) none, ap (λ (k : ℕ). k * z) taken)
-
--- so do those of a channel that has given few frames
-pub taken-few : {B : Type 0} (filters : Filters) (channel : MapChannelOf B) → IsDevice (seen filters channel.path.device) → IsMapServed filters channel → channel.book.given < 2 ^ 50 → taken_of channel.book < 2 ^ 64
-taken-few filters channel d served few =
-    let rate = map_rate_at (seen filters channel.path.device) channel.book in
-    let z = frame_bytes channel.book.opening.settings in
-    let none : channel.book.given + 0 ≡ channel.book.given = omega arith in
-    let now = counts-fit filters 0 channel d (omega (arith, few)) in
-    let taken = (safe-served filters channel served).taken in
     omega (arith, now.taken, ap (λ (k : ℕ). need rate k * z) none, ap (λ (k : ℕ). k * z) taken)
 
 -- the book of a piece, by the rate of the chain's plan

@@ -1,11 +1,11 @@
 -- Which books aren't free.
-use Rattle.std.proofs.Common.{◌≡◌, ℕ, ℤ, ◌+◌, Bool, true, false, cond, refl, sym, ap, ◌∙◌}
+use Rattle.std.proofs.Common.{◌≡◌, ℕ, ◌+◌, Bool, true, false, cond, refl, sym, ap, ◌∙◌}
 use Rattle.pcm_rate.specs.declared.rate.Rate.{Rate}
 use Rattle.pcm_desk.specs.declared.here.Here.{Here}
 use Rattle.pcm_desk.specs.declared.play_book.PlayBook.{PlayBook}
 use Rattle.pcm_desk.specs.declared.play_book.PlayState.{PlayState}
 use Rattle.pcm_desk.specs.declared.play_book.PlayState.TheVariants.{Free, Setup, Primed, Running, Draining}
-use Rattle.pcm_desk.specs.PlayBooks.{close_turn, closed_in, drained_in, is_draining, is_play_free, is_started, play_fill_of, play_settled, play_settled_in, takes_none}
+use Rattle.pcm_desk.specs.PlayBooks.{close_turn, closed_in, drained_in, is_draining, is_play_free, is_started, play_fill_of, takes_none}
 use Rattle.pcm_desk.specs.BookTurns.{doing, telling}
 use Rattle.pcm_desk.specs.PlayRequests.{device_holds, lasting_bytes, mark_of, play_ask, still_to_pass}
 use Rattle.pcm_desk.specs.PlaySafe.{IsPlayInOrder, PlayIsHere, PlayIsSafe}
@@ -61,17 +61,6 @@ open-closed rate here (Draining closed) book is used = refl
 
 pub closed-held : (rate : Rate) (here : Here) (book : PlayBook) → is_play_free (close_turn rate here book).state ≡ false → is_play_free book.state ≡ false
 closed-held rate here book used = open-closed rate here book.state book refl used
-
--- what isn't draining is left as it is by a hand-over
-stays-settled : (rate : Rate) (passed : ℤ) (state : PlayState) (book : PlayBook) → is_draining state ≡ false → play_settled_in rate passed state book ≡ book
-stays-settled rate passed Free book other = refl
-stays-settled rate passed Setup book other = refl
-stays-settled rate passed Primed book other = refl
-stays-settled rate passed Running book other = refl
-stays-settled rate passed (Draining closed) book other = absurd (let clash : true ≡ false = other in cc)
-
-pub settled-stays : (rate : Rate) (passed : ℤ) (book : PlayBook) → is_draining book.state ≡ false → book ≡ play_settled rate passed book
-settled-stays rate passed book other = sym (stays-settled rate passed book.state book other)
 
 -- ---- a free book is safe at every rate, since it counts nothing
 
