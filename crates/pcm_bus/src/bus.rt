@@ -15,7 +15,7 @@ ghost use Rattle.pcm_bus.specs.Handovers.{HasMade, IsPlannedBy};
 ghost use Rattle.pcm_bus.specs.Slots.{AreMixed, AreTaken, IsMapDue, IsPlayDue};
 
 use crate::handover::hand_over;
-use crate::mixer::{mix_block, turn_ring};
+use crate::mix::{mix_block, turn_ring};
 use pcm_chain::ChainOf;
 use pcm_desk::{Device, Here};
 use pcm_feeder::{Feeder, RackOf, Tables};

@@ -3,7 +3,7 @@
 
 mod bus;
 mod handover;
-mod mixer;
+mod mix;
 
 pub use bus::BusOf;
-pub use mixer::silent_ring;
+pub use mix::silent_ring;

@@ -7,7 +7,7 @@ use Rattle.pcm_bus.specs.Slots.{AllPlayStand, play_books_of}
 use Rattle.pcm_path.specs.Paths.{HoldBlock}
 use Rattle.pcm_play.specs.Channels.{PlayMoves}
 use Rattle.pcm_bus.specs.Blocks.{mixed_onto}
-use Rattle.pcm_bus.proofs.mixer.mix_channels.Given as goal
+use Rattle.pcm_bus.proofs.mix.mix_channels.Given as goal
 
 -- The channels below the index gave their frames, and the others are as they were.
 abbrev pub invariant-loop-slot : goal.invariant-loop-slot

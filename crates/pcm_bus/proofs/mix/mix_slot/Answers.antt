@@ -9,7 +9,7 @@ use Rattle.pcm_sound.specs.Added.{turned}
 use Rattle.pcm_play.specs.declared.channel.PlayChannelOf.{PlayChannelOf}
 use Rattle.pcm_path.specs.Paths.{HoldBlock}
 use Rattle.pcm_play.specs.Channels.{PlayStands, PlayMoves}
-use Rattle.pcm_bus.proofs.mixer.mix_slot.Goals as goal
+use Rattle.pcm_bus.proofs.mix.mix_slot.Goals as goal
 
 pub refill-requires-clause-ready : goal.refill-requires-clause-ready
 refill-requires-clause-ready g c = (c.requires.due c.index-channels-slot.result).ready

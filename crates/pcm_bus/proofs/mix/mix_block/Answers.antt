@@ -20,7 +20,7 @@ use Rattle.pcm_map.proofs.Moving.{moves-nothing as map-moves-nothing}
 use Rattle.pcm_bus.specs.Slots.{map_books_of, play_books_of}
 use Rattle.pcm_bus.specs.Blocks.{block_of, map_gains, mapped_onto, mixed_onto, whole_sum}
 use Rattle.pcm_bus.proofs.Blocks.{block-nothing, mapped-nothing}
-use Rattle.pcm_bus.proofs.mixer.mix_block.Goals as goal
+use Rattle.pcm_bus.proofs.mix.mix_block.Goals as goal
 
 pub mix_channels-requires-clause-block : goal.mix_channels-requires-clause-block
 mix_channels-requires-clause-block g c =

@@ -5,7 +5,7 @@ use Rattle.pcm_ring.specs.Ring.{Ring}
 use Rattle.pcm_format.specs.Formats.{bytes_of}
 use Rattle.pcm_format.specs.Frames.{frame_bytes}
 use Rattle.pcm_format.specs.Layouts.{channels_of}
-use Rattle.pcm_bus.proofs.mixer.turn_ring.Goals as goal
+use Rattle.pcm_bus.proofs.mix.turn_ring.Goals as goal
 
 -- how many bytes leave a full ring
 taken : (took want there room size : ℕ) → took ≡ min want there → want ≡ size → there ≡ room → size ≤ room → took ≡ size

@@ -10,7 +10,7 @@ use Rattle.pcm_path.specs.Paths.{HoldBlock}
 use Rattle.pcm_map.specs.declared.channel.MapChannelOf.{MapChannelOf}
 use Rattle.pcm_map.specs.Channels.{MapStands, area_of}
 use Rattle.pcm_bus.specs.Slots.{MapPlays}
-use Rattle.pcm_bus.proofs.mixer.mix_map.Goals as goal
+use Rattle.pcm_bus.proofs.mix.mix_map.Goals as goal
 
 pub refill-requires-clause-ready : goal.refill-requires-clause-ready
 refill-requires-clause-ready g c = (c.requires.due c.index-maps-slot.result).ready

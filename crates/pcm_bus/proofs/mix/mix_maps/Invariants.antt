@@ -4,7 +4,7 @@ use Rattle.pcm_path.specs.Paths.{HoldBlock}
 use Rattle.pcm_map.specs.declared.channel.MapChannelOf.{MapChannelOf}
 use Rattle.pcm_bus.specs.Slots.{AllMapStand, MapPlays, map_books_of}
 use Rattle.pcm_bus.specs.Blocks.{map_gains, mapped_onto}
-use Rattle.pcm_bus.proofs.mixer.mix_maps.Given as goal
+use Rattle.pcm_bus.proofs.mix.mix_maps.Given as goal
 
 -- The channels below the index gave their frames, and the others are as they were.
 abbrev pub invariant-loop-slot : goal.invariant-loop-slot

@@ -11,7 +11,7 @@ use Rattle.pcm_bus.specs.Slots.{IsPlayDue, play_books_of}
 use Rattle.pcm_bus.specs.Blocks.{mixed_onto}
 use Rattle.pcm_bus.proofs.Channels.{some_channel}
 use Rattle.pcm_bus.proofs.Blocks.{mixed-more}
-use Rattle.pcm_bus.proofs.mixer.mix_channels.Goals as goal
+use Rattle.pcm_bus.proofs.mix.mix_channels.Goals as goal
 
 pub mix_slot-requires-clause-due : goal.mix_slot-requires-clause-due
 mix_slot-requires-clause-due g c = λ other.

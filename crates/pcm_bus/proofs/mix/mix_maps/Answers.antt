@@ -9,7 +9,7 @@ use Rattle.pcm_bus.specs.Slots.{IsMapDue, MapPlays, MapStandsWith, map_books_of}
 use Rattle.pcm_bus.specs.Blocks.{map_gains, mapped_onto}
 use Rattle.pcm_bus.proofs.Channels.{some_channel}
 use Rattle.pcm_bus.proofs.Blocks.{mapped-more}
-use Rattle.pcm_bus.proofs.mixer.mix_maps.Goals as goal
+use Rattle.pcm_bus.proofs.mix.mix_maps.Goals as goal
 
 pub mix_map-requires-clause-due : goal.mix_map-requires-clause-due
 mix_map-requires-clause-due g c = λ other.
