@@ -16,7 +16,7 @@ use Rattle.pcm_config.specs.Lists.{AreFew}
 use Rattle.pcm_config.specs.Judgements.{◌>>=◌, required}
 use Rattle.pcm_config.specs.Lookups.{each_as, of_kind, with_first}
 use Rattle.pcm_config.specs.Rows.{in_range}
-use Rattle.pcm_config.specs.Tables.{coefs_in, come_together, filter_coef, filter_in, filter_rate, filter_with, filters_in, has_filter_shape, is_phases, is_taps, rows_in, settled_filter, shaped, spelled_in, taps_of}
+use Rattle.pcm_config.specs.Filters.{coefs_in, come_together, filter_coef, filter_in, filter_rate, filter_with, filters_in, has_filter_shape, is_phases, is_taps, rows_in, settled_filter, shaped, spelled_in, taps_of}
 use Rattle.pcm_config.proofs.Judging.{AreKept, IsBetween, after-any, after-kept, coef-kept, not-false, passed, range-kept, required-kept}
 use Rattle.pcm_config.proofs.EachTable.{few-kept}
 

@@ -5,7 +5,7 @@ use Rattle.std.specs.List.{list_all}
 use Rattle.pcm_format.specs.declared.settings.Settings.{Settings}
 use Rattle.pcm_feeder.specs.declared.limits.TheConstants.{FILTERS, SECTIONS}
 use Rattle.pcm_feeder.specs.declared.section.Section.{Section}
-use Rattle.pcm_feeder.specs.declared.table.Table.{Table}
+use Rattle.pcm_feeder.specs.declared.table.Table.{Table as Filter}
 use Rattle.pcm_feeder.specs.Filters.{as_filters}
 use Rattle.pcm_feeder.specs.Limits.{IsRate, IsSection, IsTable, AreFilters}
 use Rattle.pcm_desk.specs.declared.device.Device.{Device}
@@ -26,7 +26,7 @@ use Rattle.pcm_config.specs.Values.{AreSlots, IsHardware, capture_in, hardware_i
 use Rattle.pcm_config.specs.Files.{files_in}
 use Rattle.pcm_config.specs.Lists.{AreFew, has_no_other, tables_at}
 use Rattle.pcm_config.specs.Sections.{section_keys, sections_in}
-use Rattle.pcm_config.specs.Tables.{filter_keys, filters_in}
+use Rattle.pcm_config.specs.Filters.{filter_keys, filters_in}
 use Rattle.pcm_config.proofs.Judging.{IsBetween, after-any, after-kept, not-false, passed, range-kept, required-kept}
 use Rattle.pcm_config.proofs.FilterLimits.{filters-kept}
 use Rattle.pcm_config.proofs.SectionLimits.{sections-kept}
@@ -93,7 +93,7 @@ slots-kept device vchans is =
 -- ---- filters and sections
 
 -- filters and sections that are within their limits are so together
-pub tables-fit : (filters : List Table) (sections : List Section) → AreFew FILTERS IsTable filters → AreFew SECTIONS IsSection sections
+pub tables-fit : (filters : List Filter) (sections : List Section) → AreFew FILTERS IsTable filters → AreFew SECTIONS IsSection sections
     → AreFilters (as_filters filters sections)
 tables-fit filters sections f s = record { count = f.count; each = f.each; few = s.count; sections = s.each }
 

@@ -32,7 +32,7 @@ use Rattle.pcm_oss.specs.declared.event.TheConstants.{SLOTS}
 use Rattle.pcm_wave.specs.Formats.{is_wave_format}
 use Rattle.pcm_config.specs.Files.{files_in, is_named, names_of}
 use Rattle.pcm_config.specs.Lists.{has_no_other, tables_at}
-use Rattle.pcm_config.specs.Tables.{filter_keys, filters_in}
+use Rattle.pcm_config.specs.Filters.{filter_keys, filters_in}
 use Rattle.pcm_config.specs.Sections.{section_keys, sections_in}
 
 -- what is settled of a run without a configuration

@@ -5,7 +5,7 @@ pub mod Lists
 pub mod Rows
 pub mod Values
 pub mod Files
-pub mod Tables
+pub mod Filters
 pub mod Sections
 pub mod Configs
 pub mod Parts

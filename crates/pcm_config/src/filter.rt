@@ -6,7 +6,7 @@ ghost use Rattle.toml.specs.View.{view};
 ghost use Rattle.pcm_config.specs.Answers.{Reads};
 ghost use Rattle.pcm_config.specs.Judgements.{required};
 ghost use Rattle.pcm_config.specs.Lookups.{members_seen, of_kind, value_seen};
-ghost use Rattle.pcm_config.specs.Tables.{come_together, filter_held, filter_in, filter_rate, settled_filter, shaped, spelled_held};
+ghost use Rattle.pcm_config.specs.Filters.{come_together, filter_held, filter_in, filter_rate, settled_filter, shaped, spelled_held};
 ghost use Rattle.pcm_config.specs.declared.fault.ConfigKind.TheVariants.{Kind, Range};
 ghost use Rattle.pcm_config.specs.declared.place.ConfigPlace.TheVariants.{Tables};
 
@@ -17,7 +17,7 @@ use crate::rows::{Row, rows_in};
 use crate::shape::{coefs_in, has_filter_shape, taps_of};
 use crate::tables::Entry;
 use crate::{ConfigFault, ConfigKind, ConfigPlace, ConfigRefusal};
-use pcm_feeder::SHIFT_MOST;
+use pcm_feeder::{SHIFT_MOST, Table as Filter};
 use pcm_format::{RATE_LEAST, RATE_MOST};
 use pcm_sequence::Sequence;
 use std::alloc::Global;
@@ -35,17 +35,17 @@ pub(crate) struct Spelled {
     pub(crate) rows: Sequence<Row>,
 }
 
-impl Entry for pcm_feeder::Table {
+impl Entry for Filter {
     ghost read = { filter_in };
 
-    fn read(alloc: Global, table: Option<&Table>) -> Result<pcm_feeder::Table, ConfigFault> {
+    fn read(alloc: Global, table: Option<&Table>) -> Result<Filter, ConfigFault> {
         filter_in(alloc, table)
     }
 }
 
 // The filter of a table.
-#[tactic(auto, unfolding(crate::specs::Tables::filter_in))]
-fn filter_in(alloc: Global, table: Option<&Table>) -> Result<pcm_feeder::Table, ConfigFault>
+#[tactic(auto, unfolding(crate::specs::Filters::filter_in))]
+fn filter_in(alloc: Global, table: Option<&Table>) -> Result<Filter, ConfigFault>
     ensures { Reads result (filter_in (members_seen table.entry)) }
 {
     let src = member_of(table, "src");
@@ -62,7 +62,7 @@ fn filter_with(
     dst: Option<&Value>,
     shift: Option<&Value>,
     rows: Option<&Value>,
-) -> Result<pcm_feeder::Table, ConfigFault>
+) -> Result<Filter, ConfigFault>
     ensures { Reads result (filter_held src.entry dst.entry shift.entry rows.entry) }
 {
     match (shift, rows) {
@@ -82,7 +82,7 @@ fn come_together(src: Option<&Value>, dst: Option<&Value>) -> bool
 }
 
 // The rates and the shift, and then the rows, each of its kind.
-#[tactic(auto, unfolding(crate::specs::Tables::spelled_in))]
+#[tactic(auto, unfolding(crate::specs::Filters::spelled_in))]
 fn spelled_in(
     alloc: Global,
     src: Option<&Value>,
@@ -120,8 +120,8 @@ fn integer_in(value: &Value) -> Result<i64, ConfigRefusal>
 }
 
 // What is spelled, as a filter.
-#[tactic(auto, unfolding(crate::specs::Tables::settled_filter))]
-fn settled_filter(alloc: Global, spelled: &Spelled) -> Result<pcm_feeder::Table, ConfigFault>
+#[tactic(auto, unfolding(crate::specs::Filters::settled_filter))]
+fn settled_filter(alloc: Global, spelled: &Spelled) -> Result<Filter, ConfigFault>
     ensures { Reads result (settled_filter spelled.now) }
 {
     let src = ranged(filter_rate(spelled.src))?;
@@ -147,21 +147,21 @@ fn ranged(number: Option<u32>) -> Result<u32, ConfigRefusal>
 }
 
 // A filter with these rates, this shift and these rows.
-#[tactic(auto, unfolding(crate::specs::Tables::shaped))]
+#[tactic(auto, unfolding(crate::specs::Filters::shaped))]
 fn shaped(
     alloc: Global,
     src: u32,
     dst: u32,
     shift: u32,
     rows: &[Row],
-) -> Result<pcm_feeder::Table, ConfigFault>
+) -> Result<Filter, ConfigFault>
     ensures { Reads result (shaped src dst shift rows.now) }
 {
     if !has_filter_shape(rows) {
         return Err(refused(ConfigKind::Shape, ConfigPlace::Tables));
     }
     let coefs = coefs_in(alloc, rows)?;
-    Ok(pcm_feeder::Table {
+    Ok(Filter {
         src,
         dst,
         phases: rows.len(),

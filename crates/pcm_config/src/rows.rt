@@ -4,7 +4,7 @@ ghost use Rattle.toml.specs.View.{view};
 ghost use Rattle.pcm_config.specs.Answers.{Reads};
 ghost use Rattle.pcm_config.specs.Judgements.{required};
 ghost use Rattle.pcm_config.specs.Lookups.{each_in};
-ghost use Rattle.pcm_config.specs.Tables.{numbers_in, rows_in};
+ghost use Rattle.pcm_config.specs.Filters.{numbers_in, rows_in};
 ghost use Rattle.pcm_config.specs.declared.fault.ConfigKind.TheVariants.{Kind};
 ghost use Rattle.pcm_config.specs.declared.place.ConfigPlace.TheVariants.{Tables};
 ghost use Rattle.toml.specs.Data.{as_integer};

@@ -5,7 +5,7 @@ ghost use Rattle.std.specs.List.{flat_map, list_all};
 ghost use Rattle.pcm_config.specs.Answers.{Reads};
 ghost use Rattle.pcm_config.specs.Judgements.{required};
 ghost use Rattle.pcm_config.specs.Lookups.{each_as};
-ghost use Rattle.pcm_config.specs.Tables.{coefs_in, filter_coef, has_filter_shape, is_phases, is_taps, taps_of};
+ghost use Rattle.pcm_config.specs.Filters.{coefs_in, filter_coef, has_filter_shape, is_phases, is_taps, taps_of};
 ghost use Rattle.pcm_config.specs.declared.fault.ConfigKind.TheVariants.{Coef};
 ghost use Rattle.pcm_config.specs.declared.place.ConfigPlace.TheVariants.{Tables};
 

@@ -8,11 +8,11 @@ ghost use Rattle.pcm_config.specs.Lists.{AreFew, each_read};
 ghost use Rattle.pcm_config.specs.Judgements.{as_seen};
 ghost use Rattle.pcm_config.specs.Lookups.{table_seen, tables_seen};
 ghost use Rattle.pcm_config.specs.Sections.{sections_in};
-ghost use Rattle.pcm_config.specs.Tables.{filters_in};
+ghost use Rattle.pcm_config.specs.Filters.{filters_in};
 
 use crate::lists::few;
 use crate::{ConfigFault, ConfigPlace};
-use pcm_feeder::{FILTERS, SECTIONS, Section, Table};
+use pcm_feeder::{FILTERS, SECTIONS, Section, Table as Filter};
 use std::alloc::Global;
 use toml::Value;
 
@@ -31,7 +31,7 @@ pub(crate) trait Entry: Drop {
 }
 
 // The filters of tables, of which there are no more than `FILTERS`.
-pub(crate) fn filters_in(alloc: Global, tables: &[Value]) -> Result<Vec<Table>, ConfigFault>
+pub(crate) fn filters_in(alloc: Global, tables: &[Value]) -> Result<Vec<Filter>, ConfigFault>
     ensures read { Reads (as_seen (λ filters. filters.items) result) (filters_in (tables_seen tables.now)) }
     ensures limits { IfOk result (λ filters. AreFew FILTERS IsTable filters.items) }
 {

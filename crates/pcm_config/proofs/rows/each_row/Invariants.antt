@@ -1,5 +1,5 @@
 use Rattle.toml.specs.View.{view}
-use Rattle.pcm_config.specs.Tables.{numbers_in}
+use Rattle.pcm_config.specs.Filters.{numbers_in}
 use Rattle.pcm_config.proofs.Arrays.{IsRead}
 use Rattle.pcm_config.proofs.rows.each_row.Given as goal
 

@@ -1,6 +1,6 @@
 use Rattle.std.proofs.Common.{sym, ap, ◌∙◌, option_map}
 use Rattle.toml.specs.View.{array_view, view}
-use Rattle.pcm_config.specs.Tables.{numbers_in}
+use Rattle.pcm_config.specs.Filters.{numbers_in}
 use Rattle.pcm_config.proofs.Arrays.{array-is}
 use Rattle.pcm_config.proofs.rows.rows_in.Goals as goal
 

@@ -1,5 +1,5 @@
 use Rattle.std.proofs.Common.{refl, arith}
-use Rattle.pcm_config.specs.Tables.{filter_coef}
+use Rattle.pcm_config.specs.Filters.{filter_coef}
 use Rattle.pcm_config.proofs.Arrays.{all-read}
 use Rattle.pcm_config.proofs.shape.each_coef.Goals as goal
 

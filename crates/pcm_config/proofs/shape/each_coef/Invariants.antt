@@ -1,4 +1,4 @@
-use Rattle.pcm_config.specs.Tables.{filter_coef}
+use Rattle.pcm_config.specs.Filters.{filter_coef}
 use Rattle.pcm_config.proofs.Arrays.{IsRead}
 use Rattle.pcm_config.proofs.shape.each_coef.Given as goal
 

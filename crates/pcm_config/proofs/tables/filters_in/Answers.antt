@@ -2,7 +2,7 @@ use Rattle.pcm_feeder.specs.declared.limits.TheConstants.{FILTERS}
 use Rattle.pcm_feeder.specs.Limits.{IsTable}
 use Rattle.pcm_config.specs.Lists.{AreFew}
 use Rattle.pcm_config.specs.Lookups.{tables_seen}
-use Rattle.pcm_config.specs.Tables.{filters_in}
+use Rattle.pcm_config.specs.Filters.{filters_in}
 use Rattle.pcm_config.proofs.Judging.{answer-kept}
 use Rattle.pcm_config.proofs.FilterLimits.{filters-kept}
 use Rattle.pcm_config.proofs.tables.filters_in.Goals as goal

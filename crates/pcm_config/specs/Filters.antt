@@ -3,7 +3,7 @@ use Rattle.std.specs.Prelude.{ℕ, ℤ, Bool, true, false, not, ◌&&◌, ◌==�
 use Rattle.std.specs.List.{list_all, flat_map}
 use Rattle.std.specs.Borrow.{Bor}
 use Rattle.pcm_format.specs.declared.settings.TheConstants.{RATE_LEAST, RATE_MOST}
-use Rattle.pcm_feeder.specs.declared.table.Table.{Table}
+use Rattle.pcm_feeder.specs.declared.table.Table.{Table as Filter}
 use Rattle.toml.specs.Data.{Data, Members, get_member, as_integer}
 use Rattle.toml.specs.View.{view}
 use Rattle.toml.specs.declared.value.Value.{Value}
@@ -79,7 +79,7 @@ abbrev pub coefs_in : List (List ℤ) → Option (List ℤ)
 coefs_in rows = each_as filter_coef (flat_map (λ row. row) rows)
 
 -- a filter with these rates and this shift: first the rows have a shape, and then each coefficient is within its limit
-unfoldable pub shaped : ℕ → ℕ → ℕ → List (List ℤ) → Result Table ConfigRefusal
+unfoldable pub shaped : ℕ → ℕ → ℕ → List (List ℤ) → Result Filter ConfigRefusal
 shaped src dst shift rows =
     if not (has_filter_shape rows) then fault_at Shape Tables
     else do
@@ -87,7 +87,7 @@ shaped src dst shift rows =
       Ok (record { src = src; dst = dst; phases = length rows; taps = taps_of rows; shift = shift; coefs = coefs })
 
 -- what is spelled, as a filter: first its rates and its shift are in their sets
-unfoldable pub settled_filter : Spelled → Result Table ConfigRefusal
+unfoldable pub settled_filter : Spelled → Result Filter ConfigRefusal
 settled_filter spelled = do
   src ← required Range Tables (filter_rate spelled.src)
   dst ← required Range Tables (filter_rate spelled.dst)
@@ -101,21 +101,21 @@ come_together (Some src) (Some dst) = true
 come_together src dst = false
 
 -- The filter of what stands at the four keys. The shift and the rows must be there, and the rates both or neither.
-abbrev pub filter_with : Option Data → Option Data → Option Data → Option Data → Result Table ConfigRefusal
+abbrev pub filter_with : Option Data → Option Data → Option Data → Option Data → Result Filter ConfigRefusal
 filter_with src dst (Some shift) (Some rows) =
     if come_together src dst then spelled_in src dst shift rows >>= settled_filter
     else fault_at Missing Tables
 filter_with src dst shift rows = fault_at Missing Tables
 
 -- and of the values as the code holds them
-abbrev pub filter_held : Option (Bor Value) → Option (Bor Value) → Option (Bor Value) → Option (Bor Value) → Result Table ConfigRefusal
+abbrev pub filter_held : Option (Bor Value) → Option (Bor Value) → Option (Bor Value) → Option (Bor Value) → Result Filter ConfigRefusal
 filter_held src dst shift rows = filter_with (value_seen src) (value_seen dst) (value_seen shift) (value_seen rows)
 
 -- the filter of a table
-unfoldable pub filter_in : Members → Result Table ConfigRefusal
+unfoldable pub filter_in : Members → Result Filter ConfigRefusal
 filter_in table =
     filter_with (get_member (codes "src") table) (get_member (codes "dst") table) (get_member (codes "shift") table) (get_member (codes "rows") table)
 
 -- the filters of tables, of which there are no more than `FILTERS`
-abbrev pub filters_in : List Members → Result (List Table) ConfigRefusal
+abbrev pub filters_in : List Members → Result (List Filter) ConfigRefusal
 filters_in tables = few_read FILTERS Tables filter_in tables
