@@ -10,7 +10,7 @@ use Rattle.pcm_config.specs.declared.fault.ConfigKind.{ConfigKind}
 use Rattle.pcm_config.specs.declared.fault.ConfigRefusal.{ConfigRefusal}
 use Rattle.pcm_config.specs.declared.place.ConfigPlace.{ConfigPlace}
 use Rattle.pcm_config.specs.Answers.{Reads}
-use Rattle.pcm_config.specs.Judgements.{◌>>=◌, as_seen, required}
+use Rattle.pcm_config.specs.Judgements.{◌>>=◌, ◌>>◌, as_seen, must_hold, required}
 use Rattle.pcm_config.specs.Rows.{as_coef, in_range}
 
 pub after-kept : {A B E : Type 0} (read : Result A E) (next : A → Result B E) (P : A → Type 0) (Q : B → Type 0)
@@ -32,6 +32,12 @@ ok-more (Err fault) P Q known more = tt
 pub passed : {A E : Type 0} (test : Bool) (fault : E) (read : Result A E) (Q : A → Type 0) → (test ≡ false → IfOk read Q) → IfOk (cond test (Err fault) read) Q
 passed true fault read Q after = tt
 passed false fault read Q after = after refl
+
+-- and what a judgement lets through that gives nothing
+pub must-kept : {B : Type 0} (test : Bool) (fault : ConfigKind) (place : ConfigPlace) (next : Result B ConfigRefusal) (Q : B → Type 0)
+    → (test ≡ true → IfOk next Q) → IfOk (must_hold test fault place >> next) Q
+must-kept true fault place next Q after = after refl
+must-kept false fault place next Q after = tt
 
 -- what is there only where a test passes
 pub some-kept : {A : Type 0} (test : Bool) (value : A) (Q : A → Type 0) → (test ≡ true → Q value) → IfSome (cond test (Some value) None) Q

@@ -1,5 +1,5 @@
 -- What holds of each configuration that is read.
-use Rattle.std.proofs.Common.{◌≡◌, ℕ, ◌*◌, ◌≤◌, ℤ, true, not, nat_lt, List, length, Option, Some, None, arith, IfOk}
+use Rattle.std.proofs.Common.{◌≡◌, ℕ, ◌*◌, ◌≤◌, ℤ, true, nat_le, List, length, Option, Some, None, arith, IfOk}
 use Rattle.std.proofs.lemmas.Bool.Decides.{nat_tests}
 use Rattle.std.specs.List.{list_all}
 use Rattle.pcm_format.specs.declared.settings.Settings.{Settings}
@@ -27,10 +27,10 @@ use Rattle.pcm_config.specs.Files.{files_in}
 use Rattle.pcm_config.specs.Lists.{AreFew, has_no_other, tables_at}
 use Rattle.pcm_config.specs.Sections.{section_keys, sections_in}
 use Rattle.pcm_config.specs.Filters.{filter_keys, filters_in}
-use Rattle.pcm_config.proofs.Judging.{IsBetween, after-any, after-kept, not-false, passed, range-kept, required-kept}
+use Rattle.pcm_config.proofs.Judging.{IsBetween, after-any, after-kept, must-kept, range-kept, required-kept}
 use Rattle.pcm_config.proofs.FilterLimits.{filters-kept}
 use Rattle.pcm_config.proofs.SectionLimits.{sections-kept}
-use Rattle.pcm_config.specs.Configs.{HasCapture, IsHeld, can_hold, can_mix, config_read, config_with, device_seen, document_of, document_read, has_capture, has_slots, tables_read, top_read, values_read, whole_read}
+use Rattle.pcm_config.specs.Configs.{HasCapture, IsHeld, can_hold, can_mix, config_read, config_with, device_seen, document_of, has_capture, has_slots}
 
 -- a configuration within its limits, which has what it names
 pub record IsKept (config : Config) : Type 0 where
@@ -107,57 +107,44 @@ mix-fits device passes = grind (arith, nat_tests)
 slots-fit : (device : Device) → has_slots device ≡ true → mixed_slots (unfiltered device) ≤ SLOTS
 slots-fit device passes = grind (arith, nat_tests)
 
+-- a configuration that passes each test of the whole
 whole-kept : (config : Config)
     → (mix_frames (unfiltered config.device) ≤ MIX_FRAMES → mixed_slots (unfiltered config.device) ≤ SLOTS → IsInLimits (device_seen config))
-    → IfOk (whole_read config) IsKept
-whole-kept config limits =
-    passed (not (can_hold config.container config.device.settings)) _ _ IsKept (λ holds.
-    passed (not (has_capture config.files config.capture)) _ _ IsKept (λ has.
-    passed (not (can_mix config.device)) _ _ IsKept (λ fits.
-    passed (not (has_slots config.device)) _ _ IsKept (λ room.
-    record {
-      limits = limits (mix-fits config.device (not-false _ fits)) (slots-fit config.device (not-false _ room));
-      container = not-false _ holds;
-      capture = not-false _ has;
-    }))))
+    → can_hold config.container config.device.settings ≡ true → has_capture config.files config.capture ≡ true
+    → can_mix config.device ≡ true → has_slots config.device ≡ true → IsKept config
+whole-kept config limits holds has fits room = record {
+  limits = limits (mix-fits config.device fits) (slots-fit config.device room);
+  container = holds;
+  capture = has;
+}
 
-values-kept : (device vchans table : Members) (tables eq : List Members) → IfOk (values_read device vchans table tables eq) IsKept
-unfolding values_read
-values-kept device vchans table tables eq =
+-- each configuration that is read keeps its limits, whatever reads it
+pub config_read-kept : (bytes : List ℕ) → IfOk (config_read bytes) IsKept
+unfolding config_read
+config_read-kept bytes =
+    must-kept (nat_le (length bytes) CONFIG_BYTES) _ _ _ IsKept (λ _.
+    after-any (required kinds.Toml places.Top (document_of bytes)) _ IsKept (λ top.
+    must-kept (has_only top_places top) _ _ _ IsKept (λ _.
+    after-any (table_in places.Device top) _ IsKept (λ device.
+    after-any (table_in places.Vchans top) _ IsKept (λ vchans.
+    after-any (table_in places.Files top) _ IsKept (λ table.
+    after-any (tables_at places.Tables top) _ IsKept (λ tables.
+    after-any (tables_at places.Eq top) _ IsKept (λ eq.
+    must-kept (has_only device_places device) _ _ _ IsKept (λ _.
+    must-kept (has_only vchans_places vchans) _ _ _ IsKept (λ _.
+    must-kept (list_all (has_no_other filter_keys) tables) _ _ _ IsKept (λ _.
+    must-kept (list_all (has_no_other section_keys) eq) _ _ _ IsKept (λ _.
     after-kept (hardware_in device) _ IsHardware IsKept (hardware-kept device) (λ hardware h.
     after-any (capture_in device) _ IsKept (λ capture.
     after-kept (slots_in hardware.settings vchans) _ AreSlots IsKept (slots-kept hardware.settings vchans h.rate) (λ slots s.
     after-any (files_in table) _ IsKept (λ files.
     after-kept (filters_in tables) _ (AreFew FILTERS IsTable) IsKept (filters-kept tables) (λ filters f.
     after-kept (sections_in eq) _ (AreFew SECTIONS IsSection) IsKept (sections-kept eq) (λ sections c.
-    whole-kept (config_with hardware capture slots files (as_filters filters sections))
-    (λ fits room. record { device_is = record { rate = h.rate; mix_rate = s.mix_rate; filters = tables-fit filters sections f c }; block = h.block; ring = h.ring; ring_most = h.ring_most; mix_most = fits; slots_most = room; recorders_most = s.recording; quality = s.quality })))))))
-
-tables-kept : (device vchans table : Members) (tables eq : List Members) → IfOk (tables_read device vchans table tables eq) IsKept
-unfolding tables_read
-tables-kept device vchans table tables eq =
-    passed (not (has_only device_places device)) _ _ IsKept (λ _.
-    passed (not (has_only vchans_places vchans)) _ _ IsKept (λ _.
-    passed (not (list_all (has_no_other filter_keys) tables)) _ _ IsKept (λ _.
-    passed (not (list_all (has_no_other section_keys) eq)) _ _ IsKept (λ _. values-kept device vchans table tables eq))))
-
-top-kept : (top : Members) → IfOk (top_read top) IsKept
-unfolding top_read
-top-kept top =
-    after-any (table_in places.Device top) _ IsKept (λ device.
-    after-any (table_in places.Vchans top) _ IsKept (λ vchans.
-    after-any (table_in places.Files top) _ IsKept (λ table.
-    after-any (tables_at places.Tables top) _ IsKept (λ tables.
-    after-any (tables_at places.Eq top) _ IsKept (λ eq. tables-kept device vchans table tables eq)))))
-
-document-kept : (top : Members) → IfOk (document_read top) IsKept
-unfolding document_read
-document-kept top =
-    passed (not (has_only top_places top)) _ _ IsKept (λ _. top-kept top)
-
--- each configuration that is read keeps its limits, whatever reads it
-pub config_read-kept : (bytes : List ℕ) → IfOk (config_read bytes) IsKept
-unfolding config_read
-config_read-kept bytes =
-    passed (nat_lt CONFIG_BYTES (length bytes)) _ _ IsKept (λ _.
-    after-any (required kinds.Toml places.Top (document_of bytes)) _ IsKept document-kept)
+    let config : Config = config_with hardware capture slots files (as_filters filters sections) in
+    must-kept (can_hold config.container config.device.settings) _ _ _ IsKept (λ holds.
+    must-kept (has_capture config.files config.capture) _ _ _ IsKept (λ has.
+    must-kept (can_mix config.device) _ _ _ IsKept (λ fits.
+    must-kept (has_slots config.device) _ _ _ IsKept (λ room.
+    whole-kept config
+    (λ mixed slotted. record { device_is = record { rate = h.rate; mix_rate = s.mix_rate; filters = tables-fit filters sections f c }; block = h.block; ring = h.ring; ring_most = h.ring_most; mix_most = mixed; slots_most = slotted; recorders_most = s.recording; quality = s.quality })
+    holds has fits room))))))))))))))))))))))

@@ -1,5 +1,5 @@
 -- The configuration that a text is, or why it is none.
-use Rattle.std.specs.Prelude.{◌≡◌, ℕ, Bool, true, not, ◌&&◌, ◌==◌, ◌%◌, ◌≤◌, nat_le, nat_lt, if◌then◌else◌, List, [], length, Option, Some, None, Result, Ok}
+use Rattle.std.specs.Prelude.{◌≡◌, ℕ, Bool, true, ◌&&◌, ◌==◌, ◌%◌, nat_le, if◌then◌else◌, List, [], length, Option, Some, None, Result, Ok}
 use Rattle.std.specs.Str.{is_utf8}
 use Rattle.std.specs.Cmp.Lexicographic.{slice_cmp}
 use Rattle.std.specs.List.{list_all}
@@ -10,7 +10,7 @@ use Rattle.pcm_format.specs.Frames.{frame_bytes}
 use Rattle.pcm_feeder.specs.Filters.{Filters, as_filters, no_filters}
 use Rattle.pcm_desk.specs.declared.device.Device.{Device}
 use Rattle.pcm_desk.specs.declared.limits.TheConstants.{MIX_FRAMES}
-use Rattle.pcm_desk.specs.Device.{DeviceSeen, IsInLimits, mix_frames, mixed_slots, seen, unfiltered}
+use Rattle.pcm_desk.specs.Device.{DeviceSeen, mix_frames, mixed_slots, seen, unfiltered}
 use Rattle.pcm_desk.specs.Usual.{usual_settings}
 use Rattle.toml.specs.Data.{Members}
 use Rattle.toml.specs.Parse.{parse_document}
@@ -24,7 +24,7 @@ use Rattle.pcm_config.specs.declared.hardware.Hardware.{Hardware}
 use Rattle.pcm_config.specs.declared.limits.TheConstants.{CONFIG_BYTES}
 use Rattle.pcm_config.specs.declared.place.ConfigPlace.TheVariants as places
 use Rattle.pcm_config.specs.declared.slots.Slots.{Slots}
-use Rattle.pcm_config.specs.Judgements.{◌>>=◌, fault_at, required}
+use Rattle.pcm_config.specs.Judgements.{◌>>=◌, ◌>>◌, must_hold, required}
 use Rattle.pcm_config.specs.Places.{top_places, device_places, vchans_places}
 use Rattle.pcm_config.specs.Lookups.{has_only, table_in}
 use Rattle.pcm_config.specs.Values.{hardware_in, capture_in, slots_in}
@@ -91,69 +91,37 @@ config_with hardware capture slots files filters = record {
   tables = filters;
 }
 
--- What is judged of the whole: the form of the file that is played to, then the file that is recorded from, then how
--- many frames an interrupt mixes, which only a rate of the mix can make too many that isn't the device's, and then how
--- many channels are mixed, which only those with a mapped area can make too many.
-abbrev pub whole_read : Config → Result Config ConfigRefusal
-whole_read config =
-    if not (can_hold config.container config.device.settings) then fault_at kinds.Container places.DeviceContainer
-    else if not (has_capture config.files config.capture) then fault_at kinds.Capture places.DeviceCapture
-    else if not (can_mix config.device) then fault_at kinds.Range places.VchansRate
-    else if not (has_slots config.device) then fault_at kinds.Range places.VchansMapped
-    else Ok config
+-- the document that bytes are, which must be UTF-8
+abbrev pub document_of : List ℕ → Option Members
+document_of bytes = if is_utf8 bytes then parse_document bytes else None
 
--- the files, the filters and the sections, beside what is settled of the device and the channels, and then the whole
-abbrev pub lists_read : Hardware → Option (List ℕ) → Slots → Members → List Members → List Members → Result Config ConfigRefusal
-lists_read hardware capture slots table tables eq = do
-  files ← files_in table
-  filters ← filters_in tables
-  sections ← sections_in eq
-  whole_read (config_with hardware capture slots files (as_filters filters sections))
-
--- the values of the tables, in their order, and then the whole
-unfoldable pub values_read : Members → Members → Members → List Members → List Members → Result Config ConfigRefusal
-values_read device vchans table tables eq = do
-  hardware ← hardware_in device
-  capture ← capture_in device
-  slots ← slots_in hardware.settings vchans
-  lists_read hardware capture slots table tables eq
-
--- the keys of the tables, and then their values
-unfoldable pub tables_read : Members → Members → Members → List Members → List Members → Result Config ConfigRefusal
-tables_read device vchans table tables eq =
-    if not (has_only device_places device) then fault_at kinds.Key places.Device
-    else if not (has_only vchans_places vchans) then fault_at kinds.Key places.Vchans
-    else if not (list_all (has_no_other filter_keys) tables) then fault_at kinds.Key places.Tables
-    else if not (list_all (has_no_other section_keys) eq) then fault_at kinds.Key places.Eq
-    else values_read device vchans table tables eq
-
--- the three tables and those of filters and of sections, and then what they settle
-unfoldable pub top_read : Members → Result Config ConfigRefusal
-top_read top = do
+-- The configuration that bytes are. Each line is a judgement, in the order in which they are judged: the first that refuses is the result.
+unfoldable pub config_read : List ℕ → Result Config ConfigRefusal
+config_read bytes = do
+  must_hold (nat_le (length bytes) CONFIG_BYTES) kinds.Long places.Top
+  top ← required kinds.Toml places.Top (document_of bytes)
+  must_hold (has_only top_places top) kinds.Key places.Top
   device ← table_in places.Device top
   vchans ← table_in places.Vchans top
   table ← table_in places.Files top
   tables ← tables_at places.Tables top
   eq ← tables_at places.Eq top
-  tables_read device vchans table tables eq
-
--- a document, which has no key but those of the top
-unfoldable pub document_read : Members → Result Config ConfigRefusal
-document_read top =
-    if not (has_only top_places top) then fault_at kinds.Key places.Top
-    else top_read top
-
--- the document that bytes are, which must be UTF-8
-abbrev pub document_of : List ℕ → Option Members
-document_of bytes = if is_utf8 bytes then parse_document bytes else None
-
--- the configuration that bytes are
-unfoldable pub config_read : List ℕ → Result Config ConfigRefusal
-config_read bytes =
-    if nat_lt CONFIG_BYTES (length bytes) then fault_at kinds.Long places.Top
-    else do
-      top ← required kinds.Toml places.Top (document_of bytes)
-      document_read top
+  must_hold (has_only device_places device) kinds.Key places.Device
+  must_hold (has_only vchans_places vchans) kinds.Key places.Vchans
+  must_hold (list_all (has_no_other filter_keys) tables) kinds.Key places.Tables
+  must_hold (list_all (has_no_other section_keys) eq) kinds.Key places.Eq
+  hardware ← hardware_in device
+  capture ← capture_in device
+  slots ← slots_in hardware.settings vchans
+  files ← files_in table
+  filters ← filters_in tables
+  sections ← sections_in eq
+  let config = config_with hardware capture slots files (as_filters filters sections)
+  must_hold (can_hold config.container config.device.settings) kinds.Container places.DeviceContainer
+  must_hold (has_capture config.files config.capture) kinds.Capture places.DeviceCapture
+  must_hold (can_mix config.device) kinds.Range places.VchansRate
+  must_hold (has_slots config.device) kinds.Range places.VchansMapped
+  Ok config
 
 -- the device of a run with its filters and sections, as others see it
 abbrev pub device_seen : Config → DeviceSeen
@@ -167,21 +135,6 @@ IsHeld config = can_hold config.container config.device.settings ≡ true
 abbrev pub HasCapture : Config → Type 0
 HasCapture config = has_capture config.files config.capture ≡ true
 
--- an interrupt mixes no more frames than it may
-abbrev pub FitsMix : Config → Type 0
-FitsMix config = mix_frames (device_seen config) ≤ MIX_FRAMES
-
--- the mix has a slot for each channel that plays and for each with a mapped area
-abbrev pub HasSlots : Config → Type 0
-HasSlots config = mixed_slots (device_seen config) ≤ SLOTS
-
 -- the files are in the byte order of their names, and no two have one name
 abbrev pub AreInOrder : List FilePath → Type 0
 AreInOrder files = IsStrictlySortedBy (slice_cmp nat_cmp) (names_of files)
-
--- a configuration within its limits, whose files are in order and which has what it names
-pub record IsSettled (config : Config) : Type 0 where
-  pub limits : IsInLimits (device_seen config)
-  pub order : AreInOrder config.files
-  pub container : IsHeld config
-  pub capture : HasCapture config

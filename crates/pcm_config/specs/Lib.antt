@@ -8,5 +8,4 @@ pub mod Files
 pub mod Filters
 pub mod Sections
 pub mod Configs
-pub mod Parts
 pub mod Answers

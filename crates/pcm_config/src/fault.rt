@@ -2,7 +2,7 @@
 
 ghost use Rattle.std.specs.Prelude.{◌≡◌};
 ghost use Rattle.pcm_config.specs.declared.fault.ConfigFault.TheVariants.{Refused};
-ghost use Rattle.pcm_config.specs.Judgements.{required};
+ghost use Rattle.pcm_config.specs.Judgements.{must_hold, required};
 
 use crate::ConfigPlace;
 use std::alloc::{AllocError, AllocFailed};
@@ -84,6 +84,21 @@ pub(crate) fn refused(kind: ConfigKind, place: ConfigPlace) -> ConfigFault
     ensures { result ≡ Refused (record { kind = kind; place = place }) }
 {
     ConfigFault::Refused(ConfigRefusal { kind, place })
+}
+
+// What must hold, else it is refused.
+pub(crate) fn must_hold(
+    holds: bool,
+    kind: ConfigKind,
+    place: ConfigPlace,
+) -> Result<(), ConfigRefusal>
+    ensures { result ≡ must_hold holds kind place }
+{
+    if holds {
+        Ok(())
+    } else {
+        Err(ConfigRefusal { kind, place })
+    }
 }
 
 // What must be there, else it is refused.

@@ -40,7 +40,7 @@ fn are_tables(values: &[Value]) -> bool
 }
 
 // Whether no table has a key but these.
-pub(crate) fn have_no_other(tables: &[Value], keys: &[&str]) -> bool
+pub(crate) fn have_only(tables: &[Value], keys: &[&str]) -> bool
     ensures { result ≡ list_all (has_no_other (keys_seen keys.now)) (tables_seen tables.now) }
 {
     each_has_no_other(tables, keys)
