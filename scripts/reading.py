@@ -1,4 +1,6 @@
-"""What the parts of scripts/tidy-check share: the crates, their files, and a file's text."""
+"""What the parts of scripts/tidy-check share: the crates, their files, a file's text, and other scripts."""
+import importlib.machinery
+import importlib.util
 import pathlib
 import re
 
@@ -10,6 +12,14 @@ CLAUSE = re.compile(r"(?m)^[ \t]*(?:requires|ensures\*?|ghost)\b")
 FUNCTION = re.compile(r"\bfn (\w+)")
 # the text of a file with a planted bug, while it is tried
 PLANTED = {}
+
+
+def script_of(name):
+    """Another script of this folder, as a module."""
+    loader = importlib.machinery.SourceFileLoader(name, str(ROOT / "scripts" / name))
+    module = importlib.util.module_from_spec(importlib.util.spec_from_loader(name, loader))
+    loader.exec_module(module)
+    return module
 
 
 def sources(crate=None):
