@@ -2,8 +2,8 @@
 
 Each name in back quotes is declared that is a path, as `Owner::member` or `Module.word`, or that has an underscore or a capital inside, and a
 path's last name is declared in what stands before it; so are the names after a path, as in `Owner::one`, `other`, and those before a module,
-as in `word`, `other` (Module). A clause that is cited as `function: label` is one that the function promises, and a table of constants has their
-numbers. Names of others stand in scripts/names-of-others.txt.
+as in `word`, `other` (Module). A clause that is cited as `function: label` is one that the function promises, or a field of a record that such a
+clause is. A table of constants has their numbers. Names of others stand in scripts/names-of-others.txt.
 """
 import collections
 import re
@@ -30,6 +30,7 @@ CLAUSE = re.compile(r"\bfn (\w+)|\b(requires|ensures)\*? (?:(\w+) )?\{")
 STATED = re.compile(r"(?m)^(?:(?:abbrev|unfoldable|opaque) )?(?:pub )?(?:record |data )?([^\s:({]+)(?= *[:({])")
 BODY = re.compile(r"(?m)^(?:pub )?(?:record|data) ([^\s:({]+).*\n((?:[ \t]+.*\n|\n)*)")
 FIELD = re.compile(r"(?m)^\s+(?:pub )?(?:ghost )?([^\s:]+) :")
+PART = re.compile(r"(?m)^\s+(?:pub )?(\w+) : (\w*)")
 
 
 class Declared:
@@ -37,10 +38,15 @@ class Declared:
 
     def __init__(self):
         self.members, self.promised, self.asked = (collections.defaultdict(set) for _ in range(3))
+        # the fields of each record, with the record that a field is, if it is one
+        self.fields = collections.defaultdict(dict)
+        self.records = collections.defaultdict(set)
         self.same = collections.defaultdict(set)
         for file in sources():
             crate = file.relative_to(ROOT / "crates").parts[0]
             (self.read_code if file.suffix == ".rt" else self.read_words)(crate, file.stem, code_of(file))
+        for function, names in self.records.items():
+            self.promised[function] |= {it for name in names for it in self.fields_of(name)}
         for name in list(self.members):
             self.members[name] |= {it for other in self.named(name) for it in self.members[other]}
 
@@ -51,6 +57,12 @@ class Declared:
         self.members[module] |= stated | {it for _, body in bodies for it in FIELD.findall(body)}
         for name, body in bodies:
             self.members[name] |= set(FIELD.findall(body))
+            self.fields[name].update(PART.findall(body))
+
+    def fields_of(self, name):
+        """The fields of a record, and those of each record that is one of its fields."""
+        own = self.fields.get(name, {})
+        return {*own, *(it for kind in own.values() for it in self.fields.get(kind, {}))}
 
     def read_code(self, crate, module, code):
         """A file of src/."""
@@ -68,6 +80,9 @@ class Declared:
                 self.promised[function].add(None)
             elif function:
                 (self.asked if found[2] == "requires" else self.promised)[function].add(found[3])
+                head = re.match(r"\s*([A-Z]\w+)", code[found.end() :])
+                if head and found[2] == "ensures":
+                    self.records[function].add(head[1])
 
     def named(self, name):
         """A type's own name, and those of what it stands for and of its traits."""

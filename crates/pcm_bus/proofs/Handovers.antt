@@ -26,7 +26,7 @@ use Rattle.pcm_chain.specs.Gives.{AreJustEnough, CanGive, GivesExactly, GivesOn,
 use Rattle.pcm_chain.specs.Pushes.{pushed_frames}
 use Rattle.pcm_chain.proofs.Level.{passed-by}
 use Rattle.pcm_chain.proofs.Pushing.{count-frames, frames_of-bits, interleaved-bits}
-use Rattle.pcm_desk.specs.Desk.{mixed_by}
+use Rattle.pcm_desk.specs.Channels.{mixed_by}
 use Rattle.pcm_desk.specs.Device.{DeviceSeen, IsDevice, device_settings, filters_of, is_straight, mix_settings, parent_plan}
 use Rattle.pcm_desk.proofs.Ratios.{mixed-behind, parent-bits}
 use Rattle.pcm_desk.proofs.Straight.{straight-behind, straight-by, straight-channels, straight-count, straight-each}

@@ -6,7 +6,7 @@ use Rattle.pcm_feeder.specs.Streams.{interleaved}
 use Rattle.pcm_plan.specs.Through.{recs}
 use Rattle.pcm_chain.specs.declared.chain.ChainOf.{ChainOf}
 use Rattle.pcm_mixdev.specs.Mixers.{Levels}
-use Rattle.pcm_desk.specs.Desk.{mixed_by}
+use Rattle.pcm_desk.specs.Channels.{mixed_by}
 use Rattle.pcm_desk.specs.Device.{DeviceSeen, device_settings, filters_of, parent_plan}
 use Rattle.pcm_play.specs.declared.channel.PlayChannelOf.{PlayChannelOf}
 use Rattle.pcm_map.specs.declared.channel.MapChannelOf.{MapChannelOf}

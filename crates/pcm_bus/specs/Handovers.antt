@@ -9,7 +9,7 @@ use Rattle.pcm_plan.specs.Through.{recs}
 use Rattle.pcm_chain.specs.declared.chain.ChainOf.{ChainOf}
 use Rattle.pcm_chain.specs.Chains.{plan_in}
 use Rattle.pcm_chain.specs.Gives.{GivesExactly}
-use Rattle.pcm_desk.specs.Desk.{mixed_by}
+use Rattle.pcm_desk.specs.Channels.{mixed_by}
 use Rattle.pcm_desk.specs.Device.{DeviceSeen, IsDevice, filters_of, full_frame, mix_settings, mixed_for, parent_plan}
 
 -- the device is within its limits, and a chain goes by the plan from its mix to it

@@ -6,7 +6,7 @@ use Rattle.pcm_feeder.specs.Kept.{Kept}
 use Rattle.pcm_desk.specs.declared.play_book.PlayBook.{PlayBook}
 use Rattle.pcm_desk.specs.declared.map_book.MapBook.{MapBook}
 use Rattle.pcm_desk.specs.declared.device.Device.{Device}
-use Rattle.pcm_desk.specs.Desk.{map_mixing, mixing}
+use Rattle.pcm_desk.specs.Channels.{map_mixing, mixing}
 use Rattle.pcm_desk.specs.Device.{DeviceSeen, seen}
 use Rattle.pcm_play.specs.declared.channel.PlayChannelOf.{PlayChannelOf}
 use Rattle.pcm_play.specs.Channels.{IsPlayReady, PlayMoves, PlayStands}

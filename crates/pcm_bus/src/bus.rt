@@ -8,7 +8,7 @@ ghost use Rattle.pcm_feeder.specs.Racks.{IsRack};
 ghost use Rattle.pcm_chain.specs.Chains.{HasRack};
 ghost use Rattle.pcm_oss.specs.declared.event.TheConstants.{SLOTS};
 ghost use Rattle.pcm_desk.specs.declared.limits.TheConstants.{MIX_FRAMES, RING_FRAMES};
-ghost use Rattle.pcm_desk.specs.Desk.{mixed_by};
+ghost use Rattle.pcm_desk.specs.Channels.{mixed_by};
 ghost use Rattle.pcm_desk.specs.Device.{mix_frames, seen, unfiltered, HasRates};
 ghost use Rattle.pcm_bus.specs.Buses.{HasMadeSome, TurnsBus};
 ghost use Rattle.pcm_bus.specs.Handovers.{HasMade, IsPlannedBy};

@@ -2,7 +2,7 @@
 use Rattle.std.proofs.Common.{ℕ, ◌+◌, ◌*◌, ◌/◌, ◌^◌, ◌<◌, ◌≤◌, arith}
 use Rattle.std.proofs.Math.Nat.{div-lt_iff_lt-mul, mul-le-mul_left, mul-le-mul_right}
 
--- so many frames last, at the fastest rate of a client and the slowest of a mix, for at most 48 times as many
+-- a number of frames lasts, at the fastest rate of a client and the slowest of a mix, for at most 48 times as many
 lasting_most : (frames rate mix : ℕ) → rate ≤ 192000 → 4000 ≤ mix → frames * rate / mix < frames * 48 + 1
 lasting_most frames rate mix r m =
     let fast : frames * rate ≤ frames * 192000 = mul-le-mul_left frames r in

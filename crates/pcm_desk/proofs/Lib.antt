@@ -15,6 +15,7 @@ pub mod MapAsking
 pub mod MapSafe
 pub mod MapLeaves
 pub mod MapHolding
+pub mod Channels
 pub mod Grouping
 pub mod Members
 pub mod Apart
@@ -22,6 +23,7 @@ pub mod Slots
 pub mod Turning
 pub mod MixerAlone
 pub mod Isolation
+pub mod After
 pub mod OwnEvents
 pub mod Refused
 pub mod Silent

@@ -1,4 +1,4 @@
--- What a request does to a mapped book: it notes something, sets the book up anew, or ends its run.
+-- What a request does to a mapped book: it notes something, sets the book up again, or ends its run.
 use Rattle.std.proofs.Common.{◌≡◌, ℕ, Bool, true, false, cond, ◌⊎◌, inl, inr, refl, sym, ◌∙◌, subst}
 use Rattle.std.specs.Prelude.{nat_lt}
 use Rattle.pcm_format.specs.declared.settings.Settings.{Settings}
@@ -23,7 +23,7 @@ use Rattle.pcm_desk.proofs.Openings.{Setting, Staying, opening-ask-does}
 
 -- ---- what a request does
 
--- it notes something: the counts stay, a position is told that was reached, a volume is set that is one, and a book in Setup may start
+-- it notes something: the counts stay, the last position answered is one that was reached, a volume is valid, and a book in Setup may start
 pub record Notes (old new : MapBook) : Type 0 where
   pub settings : new.opening.settings ≡ old.opening.settings
   pub fragments : new.opening.fragments ≡ old.opening.fragments
@@ -33,7 +33,7 @@ pub record Notes (old new : MapBook) : Type 0 where
   pub told : (new.opening.told ≡ old.opening.told) ⊎ (new.opening.told ≡ taken_of old)
   pub state : (new.state ≡ old.state) ⊎ ((old.state ≡ Setup) × (new.state ≡ Running))
 
--- it sets a book up anew that is in Setup, within the limits
+-- it sets up again a book that is in Setup, within the limits
 pub record SetsUp (old new : MapBook) : Type 0 where
   pub setup : is_map_setup old.state ≡ true
   pub rate : IsRate old.opening.settings.rate → IsRate new.opening.settings.rate
@@ -116,7 +116,7 @@ set_trigger_in : (wrong : Bool) (bits : ℕ) (book : MapBook) → Does book (con
 set_trigger_in true bits book = untouched book
 set_trigger_in false bits book = trigger_in (has_play_bit bits) book
 
--- a position that was told
+-- a position that was answered
 position_told : (book : MapBook) → Does book (record book { opening = record book.opening { told = taken_of book } })
 position_told book = Noting (record { settings = refl; fragments = refl; eaten = refl; given = refl; volume = λ v. v; told = inr refl; state = inl refl })
 

@@ -94,7 +94,7 @@ map-safe-refilled rate n book s = refilled_at book.state rate n book s
 
 -- ---- a request
 
--- a position that was told was reached
+-- a position that was answered was reached
 reached : (old new : MapBook) → taken_of new ≡ taken_of old → old.opening.told ≤ taken_of old → (new.opening.told ≡ old.opening.told) ⊎ (new.opening.told ≡ taken_of old) → new.opening.told ≤ taken_of new
 reached old new same s t = elim t [ inl before ↦ omega (arith, same, before) | inr now ↦ omega (arith, same, now) ]
 

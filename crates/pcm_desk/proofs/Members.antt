@@ -1,10 +1,9 @@
 -- The members of a group wait for its start, whatever events come; and what opens is a member of none.
 use Rattle.std.proofs.Common.{◌≡◌, ℕ, zero, suc, ◌+◌, ◌<◌, Bool, true, false, cond, List, [], ◌∷◌, length, get_or, replicate, Option, Some, None, inl, inr, Result, Ok, Err, refl, sym, ap, ◌∙◌, subst, arith}
-use Rattle.std.specs.Prelude.{◌≢◌, ◌&&◌, eqb, min, nat_le, nat_lt}
+use Rattle.std.specs.Prelude.{◌≢◌, ◌&&◌, eqb, min, nat_le, nat_lt, not}
 use Rattle.std.proofs.lemmas.Bool.{cases_lt}
 use Rattle.std.proofs.lemmas.Bool.Decides.{nat_tests}
 use Rattle.std.proofs.lemmas.List.{get_or_past, get_or-replicate, length-replicate}
-use Rattle.std.proofs.lemmas.List.Quantifiers.{position-Some}
 use Rattle.pcm_format.specs.declared.settings.Settings.{Settings}
 use Rattle.pcm_oss.specs.declared.event.Event.{Event}
 use Rattle.pcm_oss.specs.declared.event.Event.TheVariants.{Open, Write, Poke, Read, Ioctl, Join, StartGroup, Close, Mixer, Intr}
@@ -35,17 +34,18 @@ use Rattle.pcm_desk.specs.declared.play_requests.TheConstants.{PLAY_BIT}
 use Rattle.pcm_desk.specs.declared.record_requests.TheConstants.{RECORD_BIT}
 use Rattle.pcm_desk.specs.Device.{DeviceSeen, here_at, mix_settings, mixed_for, passed_for}
 use Rattle.pcm_desk.specs.Openings as openings
-use Rattle.pcm_desk.specs.PlayBooks.{accepting, is_play_free, is_play_setup, may_start, play_begun, play_fill_of, play_free_of, play_settled_in, primed_in, refilled_in, started_at, started_in, takes_none, write_turn}
+use Rattle.pcm_desk.specs.PlayBooks.{accepting, is_play_setup, may_start, play_fill_of, play_free_of, play_settled_in, primed_in, refilled_in, started_at, started_in, takes_none, write_turn}
 use Rattle.pcm_desk.specs.PlayRequests.{play_ask, play_roused_in}
-use Rattle.pcm_desk.specs.RecordBooks.{captured_in, is_record_free, is_record_setup, record_begun, record_fill_of}
+use Rattle.pcm_desk.specs.RecordBooks.{captured_in, is_record_free, is_record_setup, record_fill_of}
 use Rattle.pcm_desk.specs.RecordRequests.{record_ask, record_roused_in}
-use Rattle.pcm_desk.specs.MapBooks.{map_begun}
-use Rattle.pcm_desk.specs.Desk.{Desk, DeskTurn, after, capturing, desk_at_start, group_of, group_started, held_by, is_member, join_result, least_free_play, least_free_record, leaving, left_by, member_refusal, mixed_by, mixing, open_map, open_play, open_record, open_turn, play_at, play_passing, play_rate_at, play_unopened, record_at, record_rate_at, record_unopened, rests}
+use Rattle.pcm_desk.specs.Channels.{Channel, Grouping, Mapped, Playing, Recording, capturing, channel_begun, is_held, join_result, may_be_held, member_refusal, mixed_by, mixing, own_ioctl, own_join, own_poke, own_request, own_turn, own_write, passing, play_passing, play_rate_at, record_rate_at, rests, way_of}
+use Rattle.pcm_desk.specs.Desk.{Desk, DeskTurn, after, channel_at, desk_at_start, group_of, group_started, grouping_at, groups_after, held_by, is_member, least_free, leaving, left_by, open_turn, opened_at}
+use Rattle.pcm_desk.specs.Own.{GoesByDescriptor, GoesByEach, HoldApart, MembersWait, Waits, descriptor_of, is_waiting}
 use Rattle.pcm_desk.specs.Events.{after_all}
-use Rattle.pcm_desk.specs.Own.{Channel, GoesByDescriptor, GoesByEach, Grouping, HoldApart, Mapped, MembersWait, Playing, Recording, Waits, channel_at, descriptor_of, grouping_at, groups_after, is_waiting, own_ioctl, own_join, own_poke, own_request, own_turn, own_write, passing}
 use Rattle.pcm_desk.proofs.Apart.{apart-after, apart-start}
 use Rattle.pcm_desk.proofs.Grouping.{by-starting}
-use Rattle.pcm_desk.proofs.Isolation.{by-descriptor, isolated, named-fd, opened-is, other-map, other-play, other-record, other-waits, same-channel}
+use Rattle.pcm_desk.proofs.Channels.{at-other, channel_named, least-unheld, same-channel, way-at, way-begun}
+use Rattle.pcm_desk.proofs.Isolation.{by-descriptor, isolated, named-fd, opened-is, other-waits}
 use Rattle.pcm_desk.proofs.Openings.{Does, Setting, Staying, opening-ask-does}
 use Rattle.pcm_desk.proofs.Turning.{by-opening}
 
@@ -217,12 +217,11 @@ asked_waits device here request (Playing book) l w = ask_waits (play_rate_at dev
 asked_waits device here request (Recording book) l w = record_ask_waits request book l w
 asked_waits device here request (Mapped book) l w = absurd w
 
--- a join sets the trigger off, of what is a member then
-joined_waits : (device : DeviceSeen) (desk new : Desk) (here : Here) (way : Way) (slot number : ℕ) → let held : Held = record { way = way; slot = slot } in
-    rests device desk held ≡ true → is_member new held ≡ true → Waits (own_join device here (Ok number) (channel_at device desk held)).book
-joined_waits device desk new here Play slot number r m = off_waits (play_rate_at device (play_at device desk slot)) (mix_settings device).rate here (play_at device desk slot).state (play_at device desk slot) refl r
-joined_waits device desk new here Record slot number r m = record_off_waits (record_at device desk slot).state (record_at device desk slot) refl r
-joined_waits device desk new here Map slot number r m = absurd (let clash : false ≡ true = m in cc)
+-- a join sets the trigger off; a mapped channel is a member of no group
+joined_waits : (device : DeviceSeen) (new : Desk) (here : Here) (slot number : ℕ) (channel : Channel) → rests channel ≡ true → is_member new (channel_named (way_of channel) slot) ≡ true → Waits (own_join device here (Ok number) channel).book
+joined_waits device new here slot number (Playing book) r m = off_waits (play_rate_at device book) (mix_settings device).rate here book.state book refl r
+joined_waits device new here slot number (Recording book) r m = record_off_waits book.state book refl r
+joined_waits device new here slot number (Mapped book) r m = absurd (let clash : false ≡ true = m in cc)
 
 -- what it leaves of a member, where that is a member still
 own_waits : (device : DeviceSeen) (event : Event) (held : Held) (desk new : Desk) → descriptor_of event ≢ None → new.groups ≡ groups_after event held (grouping_at device desk held) desk.groups → MembersWait device desk → is_member new held ≡ true
@@ -232,17 +231,17 @@ own_waits device event held desk new own is waits member = at event own is
     old : desk.groups ≡ new.groups → Waits (channel_at device desk held)
     old same = waits held (ap (λ (g : Groups). nat_lt 0 (group_of (record desk { groups = g }) held)) same ∙ member)
 
-    left : new.groups ≡ leaving (Some held) desk.groups → ⊥
-    left gone = let none : group_of new held ≡ 0 = ap (λ (g : Groups). group_of (record new { groups = g }) held) gone ∙ group-left desk.groups held.way held.slot in grind (arith, nat_tests)
+    gone : new.groups ≡ leaving held desk.groups → ⊥
+    gone left = let none : group_of new held ≡ 0 = ap (λ (g : Groups). group_of (record new { groups = g }) held) left ∙ group-left desk.groups held.way held.slot in grind (arith, nat_tests)
 
-    joining_by : (result : Result ℕ Errno) (resting : Bool) → rests device desk held ≡ resting → new.groups ≡ groups_joined desk.groups held.way held.slot (join_result result resting)
+    joining_by : (result : Result ℕ Errno) (resting : Bool) → rests (channel_at device desk held) ≡ resting → new.groups ≡ groups_joined desk.groups held.way held.slot (join_result result resting)
         → Waits (own_join device (here_at device desk.handed) (join_result result resting) (channel_at device desk held)).book
     joining_by (Err errno) resting r same = old (sym same)
-    joining_by (Ok number) true r same = joined_waits device desk new (here_at device desk.handed) held.way held.slot number r member
+    joining_by (Ok number) true r same = joined_waits device new (here_at device desk.handed) held.slot number (channel_at device desk held) r (ap (λ (way : Way). is_member new (channel_named way held.slot)) (way-at device desk held) ∙ member)
     joining_by (Ok number) false r same = old (sym same)
 
-    requested_by : (request : Request) (b : Bool) → is_member desk held ≡ b → new.groups ≡ left_by request (Some held) desk.groups → Waits (own_request device (here_at device desk.handed) request (member_refusal b request) (channel_at device desk held)).book
-    requested_by Sync b m same = absurd (left same)
+    requested_by : (request : Request) (b : Bool) → is_member desk held ≡ b → new.groups ≡ left_by request held desk.groups → Waits (own_request device (here_at device desk.handed) request (member_refusal b request) (channel_at device desk held)).book
+    requested_by Sync b m same = absurd (gone same)
     requested_by (SetTrigger bits) true m same = old (sym same)
     requested_by (SetTrigger bits) false m same = absurd (let clash : false ≡ true = sym m ∙ ap (λ (g : Groups). nat_lt 0 (group_of (record desk { groups = g }) held)) (sym same) ∙ member in cc)
     requested_by request true m same = asked_waits device (here_at device desk.handed) request (channel_at device desk held) tt (old (sym same))
@@ -254,8 +253,8 @@ own_waits device event held desk new own is waits member = at event own is
     at (Poke fd offset from count) own same = poked_waits offset count (channel_at device desk held) (old (sym same))
     at (Read fd count) own same = read_waits desk.handed count device (grouping_at device desk held) fd (channel_at device desk held) (old (sym same))
     at (Ioctl fd request) own same = requested_by request (is_member desk held) refl same
-    at (Join fd group) own same = joining_by (joining desk.groups held.way held.slot group) (rests device desk held) refl same
-    at (Close fd) own same = absurd (left same)
+    at (Join fd group) own same = joining_by (joining desk.groups held.way held.slot group) (rests (channel_at device desk held)) refl same
+    at (Close fd) own same = absurd (gone same)
     at (StartGroup fd group) own same = absurd (own refl)
     at (Mixer request) own same = absurd (own refl)
     at (Intr n) own same = absurd (own refl)
@@ -273,7 +272,7 @@ others-group event mine held grouping old new differ is = ap (λ (g : Groups). g
     stays_joined (Err errno) = refl
     stays_joined (Ok number) = group-other old.groups held.way mine.way held.slot mine.slot number apart
 
-    stays_asked : (request : Request) → group_of (record new { groups = left_by request (Some mine) old.groups }) held ≡ group_of old held
+    stays_asked : (request : Request) → group_of (record new { groups = left_by request mine old.groups }) held ≡ group_of old held
     stays_asked Sync = group-other old.groups held.way mine.way held.slot mine.slot 0 apart
     stays_asked _ = refl
 
@@ -303,31 +302,26 @@ open_wait device event desk fd mine n e h waits held member =
       | inr differ ↦ stays_waiting device desk new held waits (others-group event mine held (grouping_at device desk mine) desk new differ goes.groups) (goes.others held differ) member
     ]
 
--- what was free is no member
-free_waits : (state : PlayState) → is_play_free state ≡ true → is_waiting state ≡ true → ⊥
-free_waits Free f w = cc
-free_waits Setup f w = cc
-free_waits Primed f w = cc
-free_waits Running f w = cc
-free_waits (Draining closed) f w = cc
+-- a channel that waits may be held, so what is free is no member
+waits_held : (channel : Channel) → Waits channel → may_be_held channel ≡ true
+waits_held (Playing book) w = at book.state w.0
+  where
+    at : (state : PlayState) → is_waiting state ≡ true → is_held state ≡ true
+    at Free e = cc
+    at Setup e = refl
+    at Primed e = refl
+    at Running e = cc
+    at (Draining closed) e = cc
+waits_held (Recording book) w = at book.state w.0
+  where
+    at : (state : RecordState) → is_record_setup state ≡ true → not (is_record_free state) ≡ true
+    at record_states.Free e = cc
+    at record_states.Setup e = refl
+    at record_states.Running e = cc
+waits_held (Mapped book) w = absurd w
 
-record_free_waits : (state : RecordState) → is_record_free state ≡ true → is_record_setup state ≡ true → ⊥
-record_free_waits record_states.Free f w = cc
-record_free_waits record_states.Setup f w = cc
-record_free_waits record_states.Running f w = cc
-
-abbrev channel_named : Way → ℕ → Held
-channel_named way slot = record { way = way; slot = slot }
-
-play_alone : (device : DeviceSeen) (desk : Desk) (slot : ℕ) → least_free_play desk.play ≡ Some slot → MembersWait device desk → is_member desk (channel_named Play slot) ≡ true → ⊥
-play_alone device desk slot found waits member =
-    let free = position-Some (λ (book : PlayBook). is_play_free book.state) desk.play slot (play_unopened device) found in
-    free_waits (play_at device desk slot).state free.1 (waits (channel_named Play slot) member).0
-
-record_alone : (device : DeviceSeen) (desk : Desk) (slot : ℕ) → least_free_record desk.recording ≡ Some slot → MembersWait device desk → is_member desk (channel_named Record slot) ≡ true → ⊥
-record_alone device desk slot found waits member =
-    let free = position-Some (λ (book : RecordBook). is_record_free book.state) desk.recording slot (record_unopened device) found in
-    record_free_waits (record_at device desk slot).state free.1 (waits (channel_named Record slot) member).0
+free_alone : (device : DeviceSeen) (desk : Desk) (held : Held) → may_be_held (channel_at device desk held) ≡ false → MembersWait device desk → is_member desk held ≡ true → ⊥
+free_alone device desk held free waits member = let clash : false ≡ true = sym free ∙ waits_held (channel_at device desk held) (waits held member) in cc
 
 not_true : (b : Bool) → (b ≡ true → ⊥) → b ≡ false
 not_true true n = absurd (n refl)
@@ -337,31 +331,22 @@ not_true false n = refl
 pub opened-alone : (device : DeviceSeen) (desk : Desk) (fd : ℕ) (way : Way) (settings : Settings) (held : Held) → MembersWait device desk → held_by desk fd ≡ None → held_by (open_turn desk fd way settings).desk fd ≡ Some held
     → is_member (open_turn desk fd way settings).desk held ≡ false
 opened-alone device desk fd way settings held waits shut =
-    by-opening (λ (w : Way) (d : Desk). held_by d fd ≡ Some held → is_member d held ≡ false) way desk fd settings
-    (λ w holds. absurd (let none : None ≡ Some held = sym shut ∙ holds in cc))
-    (λ slot found holds. ap (is_member desk) (opened-is desk.descriptors fd (channel_named Play slot) held shut holds) ∙ not_true (is_member desk (channel_named Play slot)) (play_alone device desk slot found waits))
-    (λ slot found holds. ap (is_member desk) (opened-is desk.descriptors fd (channel_named Record slot) held shut holds) ∙ not_true (is_member desk (channel_named Record slot)) (record_alone device desk slot found waits))
-    (λ slot found holds. ap (is_member desk) (opened-is desk.descriptors fd (channel_named Map slot) held shut holds))
+    by-opening (λ (t : DeskTurn). held_by t.desk fd ≡ Some held → is_member t.desk held ≡ false) desk fd way settings
+    (λ mine e holds. absurd (let none : None ≡ Some held = sym shut ∙ holds in cc))
+    (λ _ holds. absurd (let none : None ≡ Some held = sym shut ∙ holds in cc))
+    (λ slot _ found holds. (let mine : Held = channel_named way slot in
+    ap (is_member desk) (opened-is desk.descriptors fd mine held shut holds)
+    ∙ not_true (is_member desk mine) (free_alone device desk mine (least-unheld device desk way slot found).unheld waits)))
 
 -- an open
 opening_waits : (device : DeviceSeen) (desk : Desk) (fd : ℕ) (way : Way) (settings : Settings) → MembersWait device desk → MembersWait device (open_turn desk fd way settings).desk
-opening_waits device desk fd way settings waits =
-    by-opening (λ (w : Way) (d : Desk). MembersWait device d) way desk fd settings (λ w. waits)
-    (λ slot found held member. (
-    elim (same-channel held (channel_named Play slot)) [
-      | inl same ↦ absurd (play_alone device desk slot found waits (ap (is_member desk) (sym same) ∙ member))
-      | inr differ ↦ stays_waiting device desk (open_play (Some slot) desk fd settings).desk held waits refl (other-play device desk slot (play_begun settings) held.way held.slot differ) member
-    ]))
-    (λ slot found held member. (
-    elim (same-channel held (channel_named Record slot)) [
-      | inl same ↦ absurd (record_alone device desk slot found waits (ap (is_member desk) (sym same) ∙ member))
-      | inr differ ↦ stays_waiting device desk (open_record (Some slot) desk fd settings).desk held waits refl (other-record device desk slot (record_begun settings) held.way held.slot differ) member
-    ]))
-    (λ slot found held member. (
-    elim (same-channel held (channel_named Map slot)) [
-      | inl same ↦ absurd (let clash : false ≡ true = ap (is_member desk) (sym same) ∙ member in cc)
-      | inr differ ↦ stays_waiting device desk (open_map (Some slot) desk fd settings).desk held waits refl (other-map device desk slot (map_begun settings) held.way held.slot differ) member
-    ]))
+opening_waits device desk fd way settings waits = by-opening (λ (t : DeskTurn). MembersWait device t.desk) desk fd way settings (λ mine e. waits) (λ shut. waits) takes
+  where
+    takes : (slot : ℕ) → held_by desk fd ≡ None → least_free desk way ≡ Some slot → MembersWait device (opened_at desk fd (channel_named way slot) settings)
+    takes slot shut found held member = elim (same-channel held (channel_named way slot)) [
+      | inl same ↦ absurd (free_alone device desk (channel_named way slot) (least-unheld device desk way slot found).unheld waits (ap (is_member desk) (sym same) ∙ member))
+      | inr differ ↦ stays_waiting device desk (opened_at desk fd (channel_named way slot) settings) held waits refl (at-other device desk (channel_named way slot) (channel_begun way settings) held (way-begun way settings) differ) member
+    ]
 
 -- of a descriptor that is shut: all but an open is refused
 shut_waits : (device : DeviceSeen) (event : Event) (desk : Desk) (fd : ℕ) → descriptor_of event ≡ Some fd → held_by desk fd ≡ None → MembersWait device desk → MembersWait device (after device desk event).desk
@@ -391,7 +376,7 @@ started_waits_on device desk group some waits held member = at (eqb (group_of de
     at true e = absurd (let none : group_of (group_started device desk group) held ≡ 0 = is ∙ ap (λ (b : Bool). cond b 0 (group_of desk held)) e in grind (arith, nat_tests))
     at false e =
         let differ : group_of desk held ≢ group = λ same. grind (arith, nat_tests) in
-        stays_waiting device desk (group_started device desk group) held waits (is ∙ ap (λ (b : Bool). cond b 0 (group_of desk held)) e) (other-waits device desk group held.way held.slot some differ) member
+        stays_waiting device desk (group_started device desk group) held waits (is ∙ ap (λ (b : Bool). cond b 0 (group_of desk held)) e) (other-waits device desk group held some differ) member
 
 -- Each member of a group waits after every event.
 pub waits-after : (device : DeviceSeen) (desk : Desk) (event : Event) → HoldApart desk → MembersWait device desk → MembersWait device (after device desk event).desk

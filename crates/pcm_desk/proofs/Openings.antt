@@ -1,4 +1,4 @@
--- What a request of either way does to an opening: nothing, or it sets the opening up anew, before a run.
+-- What a request of either way does to an opening: nothing, or it sets the opening up again, before a run.
 use Rattle.std.proofs.Common.{◌≡◌, ℕ, Bool, true, false, cond, eqb, Option, Some, None, Ok, refl, arith}
 use Rattle.std.specs.Prelude.{IfSome, nat_le, ◌&&◌, option_map}
 use Rattle.std.proofs.lemmas.Bool.{and_parts}

@@ -1,4 +1,4 @@
--- What a client is told along a list of events goes by its own events alone.
+-- The replies to a client along a list of events depend on its own events alone.
 use Rattle.std.proofs.Common.{◌≡◌, ◌≢◌, ℕ, ◌+◌, ◌<◌, Bool, true, false, cond, List, [], ◌∷◌, Option, Some, None, ◌⊎◌, inl, inr, Result, Ok, Err, refl, sym, ap, ◌∙◌, subst, arith}
 use Rattle.std.specs.Prelude.{All, IsErr, eqb, nat_lt}
 use Rattle.std.proofs.lemmas.Bool.{cases_eq, eqb-true}
@@ -14,18 +14,21 @@ use Rattle.pcm_desk.specs.declared.device.Held.{Held}
 use Rattle.pcm_desk.specs.Device.{DeviceSeen}
 use Rattle.pcm_oss.specs.declared.request.Request.TheVariants.{Sync}
 use Rattle.pcm_group.specs.declared.sync_groups.Groups.{Groups}
+use Rattle.pcm_group.specs.Groups.{groups_joined}
 use Rattle.pcm_group.proofs.Members.{group-dissolved, group-left, used-some}
-use Rattle.pcm_desk.specs.Desk.{Desk, DeskTurn, after, held_by, group_of, is_member, member_refusal}
+use Rattle.pcm_desk.specs.Channels.{Channel, Grouping, Mapped, Playing, Recording, channel_begun, member_refusal, own_join, own_request, own_turn, ungrouped}
+use Rattle.pcm_desk.specs.Desk.{Desk, DeskTurn, after, channel_at, group_of, grouping_at, groups_after, held_by, is_member, with_channel_at}
+use Rattle.pcm_desk.specs.Own.{GoesByDescriptor, GoesByEach, HoldApart, IsIsolatedBy, MembersWait, StartsTogether, descriptor_of, held_after}
+use Rattle.pcm_desk.specs.OwnEvents.{JoinsNone, Opens, closes, concerns, joins, names, own_after, own_events, own_replies, replies_to, unnamed}
 use Rattle.pcm_desk.specs.Events.{after_all, frames_taken}
 use Rattle.pcm_desk.specs.declared.turn.Turn.{Turn}
 use Rattle.pcm_desk.specs.Device.{here_at}
-use Rattle.pcm_desk.specs.Own.{Channel, GoesByDescriptor, GoesByEach, Grouping, HoldApart, IsIsolatedBy, Mapped, MembersWait, Playing, Recording, StartsTogether, channel_at, descriptor_of, grouping_at, groups_after, held_after, own_request, own_turn, ungrouped}
-use Rattle.pcm_desk.specs.OwnEvents.{JoinsNone, Opens, channel_begun, closes, concerns, joins, names, own_after, own_events, own_replies, replies_to, unnamed}
 use Rattle.pcm_desk.proofs.Apart.{apart-after}
-use Rattle.pcm_desk.proofs.Grouping.{by-joining, by-starting, is-this}
+use Rattle.pcm_desk.proofs.Channels.{put-again}
+use Rattle.pcm_desk.proofs.Grouping.{by-starting, is-this}
 use Rattle.pcm_desk.proofs.Members.{opened-alone, others-group}
 use Rattle.pcm_desk.proofs.Isolation.{isolated, opened-begins}
-use Rattle.pcm_desk.proofs.Turning.{handed-taken}
+use Rattle.pcm_desk.proofs.Turning.{by-turning, handed-taken}
 
 -- ---- one event
 
@@ -52,7 +55,7 @@ unnamed_taken (Close fd) = refl
 unnamed_taken (Mixer request) = refl
 unnamed_taken (Intr n) = refl
 
--- what is told behind an event and behind that event without its number
+-- the replies from an event on are the same where it has no descriptor's number
 unnamed_replies : (device : DeviceSeen) (handed : ℕ) (event : Event) (channel : Channel) (more : List Event) → own_replies device handed channel (unnamed event ∷ more) ≡ own_replies device handed channel (event ∷ more)
 unnamed_replies device handed event channel more =
     ap (λ (t : Turn Channel). t.reply ∷ own_replies device (handed + frames_taken (unnamed event)) t.book more) (unnamed_same device handed event channel)
@@ -102,7 +105,7 @@ own_group event fd held grouping groups old new mine was is alone = ap (λ (g : 
     stays (Close at) mine = group-left groups held.way held.slot
     stays _ mine = same
 
--- what an event tells of a descriptor that holds a channel of no group: it is another's, or its own, be it a close or not
+-- what holds of a descriptor's channel of no group after an event that isn't its own, and after one of its own, be that a close or not
 pub record IsOther (device : DeviceSeen) (held : Held) (fd : ℕ) (old new : Desk) : Type 0 where
   pub channel : channel_at device new held ≡ channel_at device old held
   pub holds : held_by new fd ≡ Some held
@@ -129,7 +132,7 @@ stays_open (Close at) fd held n e = absurd (let same : at ≡ fd = ap (λ (o : O
     number_in (Some k) = k
 stays_open _ fd held n e = refl
 
--- an event that starts no group is isolated by whose it is
+-- an event that starts no group
 abbrev StartsNone : Event → Type 0
 StartsNone (StartGroup at group) = ⊥
 StartsNone _ = Unit {0}
@@ -239,8 +242,12 @@ started_some device desk fd group =
 
 -- a refused join leaves all
 refused_leaves : (device : DeviceSeen) (desk : Desk) (fd group : ℕ) → IsErr (after device desk (Join fd group)).reply → (after device desk (Join fd group)).desk ≡ desk
-refused_leaves device desk fd group =
-    by-joining device (λ (t : DeskTurn). IsErr t.reply → t.desk ≡ desk) (held_by desk fd) desk group (λ errno refused. refl) (λ held number e resting refused. cc)
+refused_leaves device desk fd group = by-turning (λ (t : DeskTurn). IsErr t.reply → t.desk ≡ desk) device desk (Join fd group) (held_by desk fd) (λ e refused. refl) (λ held e. at held ((grouping_at device desk held).joins group))
+  where
+    at : (held : Held) (result : Result ℕ Errno) → let turn : Turn Channel = own_join device (here_at device desk.handed) result (channel_at device desk held) in
+        IsErr turn.reply → record (with_channel_at desk held.slot turn.book) { groups = groups_joined desk.groups held.way held.slot result } ≡ desk
+    at held (Err errno) refused = put-again device desk held
+    at held (Ok number) refused = cc
 
 pub other-stays : (device : DeviceSeen) (event : Event) (desk : Desk) (fd : ℕ) (held : Held) → concerns fd event ≡ false → (joins fd event ≡ true → IsErr (after device desk event).reply) → HoldApart desk → held_by desk fd ≡ Some held → IsAlone desk held
     → IsOther device held fd desk (after device desk event).desk
@@ -268,7 +275,7 @@ other-stays device (Intr n) desk fd held e refused h m a = cc
 
 -- ---- a list of events
 
--- it hands nothing over
+-- it gives nothing to the device
 handed_stays : (device : DeviceSeen) (desk : Desk) (event : Event) (fd : ℕ) → concerns fd event ≡ false → (after device desk event).desk.handed ≡ desk.handed
 handed_stays device desk event fd e = let taken = handed-taken device desk event in let none = others_take event fd e in omega (arith, taken, none)
 
@@ -277,7 +284,7 @@ pub others-go : (event : Event) (fd : ℕ) → concerns fd event ≡ false → c
 others-go (Close at) fd e = e
 others-go _ fd e = refl
 
--- the replies to one event and to those behind it
+-- the replies to one event and to those after it
 replies_step : (device : DeviceSeen) (event : Event) (events : List Event) (desk : Desk) (fd : ℕ) (held : Held) (own closing : Bool) → concerns fd event ≡ own → closes fd event ≡ closing → HoldApart desk → held_by desk fd ≡ Some held → IsAlone desk held
     → (joins fd event ≡ true → IsErr (after device desk event).reply)
     → let new : Desk = (after device desk event).desk in
@@ -303,7 +310,7 @@ replies_step device event events desk fd held false closing o c h m a joined res
     rest (others-go event fd o) theirs.holds theirs.alone ∙ ap (λ (c : Channel). own_replies device new.handed c (own_events fd events)) theirs.channel
     ∙ ap (λ (k : ℕ). own_replies device k (channel_at device desk held) (own_events fd events)) (handed_stays device desk event fd o)
 
--- What the client of a descriptor is told is what its book and its own events say, as long as it joins no group.
+-- The replies to the client of a descriptor are what its book and its own events say, as long as it joins no group.
 pub replies-own : (device : DeviceSeen) (desk : Desk) (fd : ℕ) (held : Held) (events : List Event) → HoldApart desk → held_by desk fd ≡ Some held → is_member desk held ≡ false → JoinsNone device fd desk events
     → replies_to device fd desk events ≡ own_replies device desk.handed (channel_at device desk held) (own_events fd events)
 replies-own device desk fd held [] h m a none = refl
@@ -316,7 +323,7 @@ record IsAfter (device : DeviceSeen) (fd : ℕ) (held : Held) (new : Desk) (chan
   holds : held_by new fd ≡ Some held
   book : channel_at device new held ≡ channel
 
--- the book after one event and those behind it, of which none is a close
+-- the book after one event and those after it, of which none is a close
 after_step : (device : DeviceSeen) (event : Event) (events : List Event) (desk : Desk) (fd : ℕ) (held : Held) (own closing : Bool) → concerns fd event ≡ own → closes fd event ≡ closing → closing ≡ false → HoldApart desk → held_by desk fd ≡ Some held → IsAlone desk held
     → (joins fd event ≡ true → IsErr (after device desk event).reply)
     → let new : Desk = (after device desk event).desk in
@@ -404,7 +411,7 @@ begun-own device fd way settings held old new o =
 apart_opened : (device : DeviceSeen) (fd : ℕ) (way : Way) (settings : Settings) (held : Held) (old new : Desk) → HoldApart old → Opens device fd way settings held old new → HoldApart new
 apart_opened device fd way settings held old new h o = subst HoldApart (sym o.is) (apart-after device old (Open fd way settings) h)
 
--- an opening hands nothing over
+-- an opening gives nothing to the device
 handed_opened : (device : DeviceSeen) (fd : ℕ) (way : Way) (settings : Settings) (held : Held) (old new : Desk) → Opens device fd way settings held old new → new.handed ≡ old.handed
 handed_opened device fd way settings held old new o =
     let taken = handed-taken device old (Open fd way settings) in
@@ -419,7 +426,7 @@ alone_opened device fd way settings held old new w o =
 pub opened-none : (device : DeviceSeen) (fd : ℕ) (way : Way) (settings : Settings) (held : Held) (old new : Desk) → MembersWait device old → Opens device fd way settings held old new → group_of new held ≡ 0
 opened-none device fd way settings held old new w o = alone_is (group_of new held) (alone_opened device fd way settings held old new w o)
 
--- what an opening is told
+-- the replies to the events of an opening
 opening_told : (device : DeviceSeen) (fd : ℕ) (way : Way) (settings : Settings) (held : Held) (old new : Desk) (events : List Event) → HoldApart old → MembersWait device old → Opens device fd way settings held old new → JoinsNone device fd new events
     → replies_to device fd new events ≡ own_replies device old.handed (channel_begun way settings) (own_events fd events)
 opening_told device fd way settings held old new events h w o none =
@@ -427,7 +434,7 @@ opening_told device fd way settings held old new events h w o none =
     ∙ ap (λ (c : Channel). own_replies device new.handed c (own_events fd events)) (begun-own device fd way settings held old new o)
     ∙ ap (λ (k : ℕ). own_replies device k (channel_begun way settings) (own_events fd events)) (handed_opened device fd way settings held old new o)
 
--- Two openings with the same settings and the same events of their own are told the same, where as many frames were handed over before.
+-- Two openings with the same settings and the same own events get the same replies, where the device had been given as many frames before.
 pub alike-told : (device : DeviceSeen) (fd at : ℕ) (way : Way) (settings : Settings) (held theirs : Held) (one new other anew : Desk) (events others : List Event) → HoldApart one → HoldApart other → MembersWait device one → MembersWait device other → one.handed ≡ other.handed
     → Opens device fd way settings held one new → Opens device at way settings theirs other anew → JoinsNone device fd new events → JoinsNone device at anew others → own_events fd events ≡ own_events at others
     → replies_to device fd new events ≡ replies_to device at anew others

@@ -1,4 +1,4 @@
--- Where the mix and the device can be, however many frames were handed over.
+-- Where the mix and the device can be, however many frames the device has been given.
 use Rattle.std.proofs.Common.{◌≡◌, ℕ, ℤ, pos, negsuc, zero, suc, ◌+◌, ◌-◌, ◌*◌, ◌/◌, ◌^◌, ◌<◌, ◌≤◌, ◌⊎◌, inl, inr, refl, sym, ap, ◌∙◌, subst, arith, w64, FitsSigned}
 use mir.Syntax.{w128}
 use Rattle.std.specs.Prelude.{◌==◌, ◌≤ℤ◌, ◌+ℤ◌, ◌-ℤ◌, ◌*ℤ◌}
@@ -9,7 +9,7 @@ use Rattle.std.proofs.lemmas.Bool.{cases_eq, cases_lt, cond_both, eqb-true}
 use Rattle.pcm_num.specs.Floor.{floor_div}
 use Rattle.pcm_rate.specs.declared.rate.Rate.{Rate}
 use Rattle.pcm_rate.specs.Rates.{need}
-use Rattle.pcm_rate.proofs.Counts.{div_grows, need-unchanged}
+use Rattle.pcm_rate.proofs.Counts.{div_apart, div_grows, need-unchanged}
 use Rattle.pcm_feeder.specs.Limits.{IsRate}
 use Rattle.pcm_plan.proofs.Fits.{record-changes, record-level}
 use Rattle.pcm_desk.specs.Device.{DeviceSeen, IsDevice, IsInLimits, device_settings, filters_of, here_at, mix_frames, mix_settings, mixed_for, parent_rate, passed_for, quality_of, ring_frames}
@@ -21,23 +21,13 @@ use Rattle.pcm_desk.specs.Here.{IsHere, held_most}
 div_joined : (a b d : ℕ) → 0 < d → a / d + b / d ≤ (a + b) / d
 div_joined a b d above = (le-div_iff_mul-le {k = d} {x = a / d + b / d} {y = a + b} above).1 (omega (arith, div-mul-le_self a d, div-mul-le_self b d))
 
--- and at least one below it
-div_parted : (a b d : ℕ) → 0 < d → (a + b) / d ≤ a / d + b / d + 1
-div_parted a b d above =
-    let x = a / d in
-    let y = b / d in
-    let first = (div-lt_iff_lt-mul {k = d} {x = a} {y = x + 1} above).0 (omega arith) in
-    let second = (div-lt_iff_lt-mul {k = d} {x = b} {y = y + 1} above).0 (omega arith) in
-    let both : (a + b) / d < x + y + 2 = (div-lt_iff_lt-mul {k = d} {x = a + b} {y = x + y + 2} above).1 (omega (arith, first, second)) in
-    omega (arith, both)
-
 -- ---- how many frames have left the ring
 
--- how many frames of the mix last as long as so many of the device
+-- how many frames of the mix last as long as `frames` of the device
 abbrev lasting : DeviceSeen → ℕ → ℕ
 lasting device frames = frames * (mix_settings device).rate / (device_settings device).rate
 
--- once as many frames were handed over as the ring holds, those of the mix count that last as long as the rest
+-- once the device has been given as many frames as its ring holds, those of the mix count that last as long as the rest
 passed-past : (device : DeviceSeen) (handed : ℕ) → ring_frames device ≤ handed → passed_for device handed ≡ pos (lasting device (handed - ring_frames device))
 passed-past device handed past =
     let gap : (pos handed -ℤ pos (ring_frames device)) ≡ pos (handed - ring_frames device) = omega (arith, ints) in
@@ -70,7 +60,7 @@ fits-below : (z : ℤ) (k : ℕ) → k < 2 ^ 100 → (z ≡ pos k) ⊎ (z ≡ (p
 fits-below (pos n) k few is = record { sfits = elim is [ inl up ↦ omega (arith, ints, up, few) | inr down ↦ omega (arith, ints, down, few) ] }
 fits-below (negsuc n) k few is = record { sfits = elim is [ inl up ↦ omega (arith, ints, up, few) | inr down ↦ omega (arith, ints, down, few) ] }
 
--- what is handed over past the ring fits, or what is short of it
+-- what the device has been given past its ring fits, or what is short of it
 pub fits-gap : (a b : ℕ) → a < 2 ^ 64 → b < 2 ^ 32 → FitsSigned w128 (pos a -ℤ pos b)
 fits-gap a b few small =
     elim (cases_lt a b) [
@@ -156,7 +146,7 @@ needs-ahead device count d =
           })
     ]
 
--- so much was mixed that no more than 48 times as many were handed over
+-- the frames that the device has been given are at most 48 times the mixed ones
 pub handed-most : (device : DeviceSeen) (handed : ℕ) → IsDevice device → handed ≤ 48 * mixed_for device handed
 handed-most device zero d = omega arith
 handed-most device (suc c) d =
@@ -182,7 +172,7 @@ ring-lasts device d =
 
 -- ---- both
 
--- what was handed over was mixed
+-- what the device has been given was mixed
 pub past-is : (device : DeviceSeen) (handed : ℕ) → IsDevice device → 0 < ring_frames device → passed_for device handed ≤ℤ pos (mixed_for device handed)
 past-is device handed d some =
     elim (cases_lt handed (ring_frames device)) [
@@ -202,7 +192,7 @@ past-is device handed d some =
           omega (arith, ints, is, mixed, fewer))
     ]
 
--- where nothing was handed over, nothing has passed
+-- where the device has been given nothing, nothing has passed
 pub passed-none : (device : DeviceSeen) → IsRate (mix_settings device).rate → passed_for device 0 ≤ℤ pos 0
 passed-none device mix =
     elim (cases_lt 0 (ring_frames device)) [
@@ -241,7 +231,7 @@ held-is device handed l =
       | inr past ↦ (
           let is = passed-past device handed past in
           let k = handed - ring in
-          let parted = div_parted (k * mix) (ring * mix) rate (omega (arith, slow)) in
+          let parted = div_apart (k * mix) (ring * mix) rate (omega (arith, slow)) in
           let whole : lasting device handed ≡ (k * mix + ring * mix) / rate = ap (λ z. z / rate) (let all : handed ≡ k + ring = omega arith in ap (λ n. n * mix) all ∙ omega arith) in
           let mixed = mixed-most device handed d in
           omega (arith, ints, is, parted, whole, mixed, most, lasts))

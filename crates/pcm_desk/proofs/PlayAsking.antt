@@ -1,4 +1,4 @@
--- What a request does to a book that plays: it sets the opening up anew, notes something, starts or stops the book, lets it play to
+-- What a request does to a book that plays: it sets the opening up again, notes something, starts or stops the book, lets it play to
 -- its end, or drops its bytes.
 use Rattle.std.proofs.Common.{◌≡◌, ℕ, Bool, true, false, cond, ◌⊎◌, inl, inr, refl}
 use Rattle.std.specs.Prelude.{nat_lt}
@@ -18,7 +18,7 @@ use Rattle.pcm_desk.specs.BookTurns.{doing, refused}
 use Rattle.pcm_desk.proofs.Openings as settings
 use Rattle.pcm_desk.proofs.Openings.{Setting, Staying, Sets, opening-ask-does}
 
--- the book with a position that was told, a volume and a count of shortages
+-- the book with a last answered position, a volume and a count of shortages
 abbrev pub noting : ℕ → ℕ → ℕ → PlayBook → PlayBook
 noting told volume underruns book = record book { opening = record book.opening { told = told }; volume = volume; underruns = underruns }
 

@@ -1,4 +1,4 @@
--- No run gives a frame past what is mixed, and none that drains is over, wherever the mix and the device come to be.
+-- No run gives a frame past what is mixed, and none that drains is over, wherever the mix and the device are.
 use Rattle.std.proofs.Common.{◌≡◌, ℕ, ℤ, ◌+◌, ◌<◌, ◌≤◌, Bool, true, false, cond, eqb, min, refl, subst, sym, arith}
 use Rattle.std.specs.Prelude.{nat_lt, ◌&&◌}
 use Rattle.std.proofs.lemmas.Bool.Decides.{nat_tests}
@@ -136,7 +136,7 @@ settled_at Primed rate here book h = idle rate here (record book { state = Prime
 settled_at Running rate here book h = record { last = h; left = λ e. cc }
 settled_at (Draining closed) rate here book h = over_here (is_over rate here.passed book) closed rate here book refl (h refl)
 
--- frames that are handed over: wherever the device comes to be
+-- a hand-over: wherever the device is then
 pub here-settled : (rate : Rate) (here : Here) (book : PlayBook) → (is_started book.state ≡ true → book.last ≤ here.mixed) → PlayIsHere rate here (play_settled rate here.passed book)
 here-settled rate here book h = settled_at book.state rate here book h
 

@@ -14,8 +14,7 @@ use Rattle.pcm_desk.specs.declared.turn.Turn.{Turn}
 use Rattle.pcm_desk.specs.BookTurns.{refused}
 use Rattle.pcm_desk.specs.PlayBooks.{accepting, drained_in, finished, frames_written, is_over, may_start, play_emptied, play_free_of, play_settled, refilled, started_at, started_in, takes_none, write_turn}
 use Rattle.pcm_desk.specs.PlayRequests.{play_ask, play_roused_in, play_stopped_in}
-use Rattle.pcm_desk.specs.Desk.{mixed_by, mixing, play_passing, play_rate_at}
-use Rattle.pcm_desk.specs.Own.{is_held}
+use Rattle.pcm_desk.specs.Channels.{is_held, mixed_by, mixing, play_passing, play_rate_at}
 use Rattle.pcm_desk.proofs.PlayStates.{Lasts, ask-lasts}
 
 held_started : (mixed : ℕ) (b : Bool) (more : PlayBook) → is_held (cond b (started_at mixed Running more) (record more { state = Primed })).state ≡ true

@@ -97,7 +97,7 @@ settle_at Primed rate passed book = same (record book { state = Primed })
 settle_at Running rate passed book = same (record book { state = Running })
 settle_at (Draining closed) rate passed book = settle_over (is_over rate passed (record book { state = Draining closed })) closed book
 
--- frames are handed over
+-- a hand-over
 pub settle-leaves : (rate : Rate) (passed : ℤ) (book : PlayBook) → Leaves book (play_settled rate passed book)
 settle-leaves rate passed book = settle_at book.state rate passed book
 
@@ -184,7 +184,7 @@ keep_settle_at (Draining closed) rate passed book =
     let draining : PlayBook = record book { state = Draining closed } in
     keep_settle_over (is_over rate passed draining) closed draining
 
--- and so do frames that are handed over
+-- and so does a hand-over
 pub settle-keeps : (rate : Rate) (passed : ℤ) (book : PlayBook) → Keeps book (play_settled rate passed book)
 settle-keeps rate passed book = keep_settle_at book.state rate passed book
 

@@ -319,7 +319,7 @@ safe_settled_at Primed rate passed book s = s
 safe_settled_at Running rate passed book s = s
 safe_settled_at (Draining closed) rate passed book s = safe_over (is_over rate passed book) closed rate book s
 
--- frames that were handed over
+-- a hand-over
 pub safe-settled : (rate : Rate) (passed : ℤ) (book : PlayBook) → PlayIsSafe rate book → PlayIsSafe rate (play_settled rate passed book)
 safe-settled rate passed book s = safe_settled_at book.state rate passed book s
 
@@ -425,6 +425,6 @@ settings_settled_at Primed rate passed book = refl
 settings_settled_at Running rate passed book = refl
 settings_settled_at (Draining closed) rate passed book = settings_over (is_over rate passed book) closed (record book { state = Draining closed })
 
--- what is handed over leaves them too
+-- a hand-over leaves them too
 pub settings-settled : (rate : Rate) (passed : ℤ) (book : PlayBook) → (play_settled rate passed book).opening.settings ≡ book.opening.settings
 settings-settled rate passed book = settings_settled_at book.state rate passed book

@@ -49,7 +49,7 @@ order_noted Primed rate book trigger volume told underruns o = o
 order_noted Running rate book trigger volume told underruns o = o
 order_noted (Draining closed) rate book trigger volume told underruns o = o
 
--- so does a book with a trigger, a volume, a position that was told and a count of shortages
+-- so does a book with a trigger, a volume, a last answered position and a count of shortages
 with_notes : (rate : Rate) (book : PlayBook) (trigger : Bool) (volume told underruns : ℕ) → is_volume volume ≡ true → told ≤ played_of book → PlayIsSafe rate book
     → PlayIsSafe rate (record book { opening = record book.opening { trigger = trigger; told = told }; volume = volume; underruns = underruns })
 with_notes rate book trigger volume told underruns v reached s =

@@ -1,9 +1,6 @@
 -- The sets for `by { Prim.hlevel book_props }` and `by { Prim.hlevel record_props }` after a ghost field: that the counts of a book are
 -- in order has one proof at most.
 use Rattle.std.proofs.Props.{props}
-use Rattle.std.specs.Prelude.{ℕ}
-use Rattle.pcm_oss.specs.declared.event.Way.{Way}
-use Rattle.pcm_oss.specs.declared.event.Way.TheVariants.{Play, Record, Map}
 use Rattle.pcm_rate.specs.declared.rate.Rate.{Rate}
 use Rattle.pcm_desk.specs.declared.play_book.PlayBook.{PlayBook}
 use Rattle.pcm_desk.specs.declared.play_book.PlayState.{PlayState}
@@ -12,7 +9,7 @@ use Rattle.pcm_desk.specs.declared.record_book.RecordBook.{RecordBook}
 use Rattle.pcm_desk.specs.declared.record_book.RecordState.{RecordState}
 use Rattle.pcm_desk.specs.declared.record_book.RecordState.TheVariants as record_states
 use Rattle.pcm_desk.specs.Desk.{Desk}
-use Rattle.pcm_desk.specs.Own.{HoldApart, MayBeHeld}
+use Rattle.pcm_desk.specs.Own.{HoldApart}
 use Rattle.pcm_desk.specs.PlaySafe.{IsPlayInOrder, PlayIsSafe}
 use Rattle.pcm_desk.specs.declared.map_book.MapBook.{MapBook}
 use Rattle.pcm_desk.specs.declared.map_book.MapState.{MapState}
@@ -58,14 +55,7 @@ MapIsSafe-prop rate book = Prim.hlevel map_order_props
 
 pub ruleset map_props = (MapIsSafe-prop, props)
 
-pub MayBeHeld-prop : (desk : Desk) (way : Way) (slot : ℕ) → IsProp (MayBeHeld desk way slot)
-MayBeHeld-prop desk Play slot = Prim.hlevel props
-MayBeHeld-prop desk Record slot = Prim.hlevel props
-MayBeHeld-prop desk Map slot = Prim.hlevel props
-
-pub ruleset held_props = (MayBeHeld-prop, props)
-
 pub HoldApart-prop : (desk : Desk) → IsProp (HoldApart desk)
-HoldApart-prop desk = Prim.hlevel held_props
+HoldApart-prop desk = Prim.hlevel props
 
 pub ruleset hold_props = (HoldApart-prop, props)

@@ -21,7 +21,7 @@ use Rattle.pcm_plan.proofs.Bits.{recs-bits}
 use Rattle.pcm_plan.proofs.Fits.{play-fits, play-ratio, play-tables, record-changes, record-fits, record-level, record-ratio, record-tables}
 use Rattle.pcm_desk.specs.declared.device.Device.{Device}
 use Rattle.pcm_desk.specs.Device.{DeviceSeen, HasRates, IsDevice, device_settings, filters_of, quality_of, play_plan_between, play_rate_between, mix_frames, mix_settings, mixed_for, parent_plan, parent_rate, record_plan_between, record_rate_between, ring_frames, seen}
-use Rattle.pcm_desk.specs.Desk.{mixed_by}
+use Rattle.pcm_desk.specs.Channels.{mixed_by}
 
 -- ---- from a client that plays to the mix
 
@@ -80,11 +80,11 @@ pub parent-bits : (device : DeviceSeen) → IsDevice device → (frames : List F
     → HaveBits (bits_of (device_settings device).format) (recs (parent_plan device) (filters_of device) frames from count)
 parent-bits device d frames from count have = recs-bits (filters_of device) (quality_of device) (device_settings device) (mix_settings device) frames from count d.rate have
 
--- more frames that were handed over need no fewer mixed ones
+-- more frames of the device need no fewer mixed ones
 pub mixed-grows : (device : DeviceSeen) (handed later : ℕ) → IsDevice device → handed ≤ later → mixed_for device handed ≤ mixed_for device later
 mixed-grows device handed later d h = need_grows (parent_rate device) handed later (parent-ratio device d).dst h
 
--- an interrupt mixes what stands between
+-- what an interrupt mixes, with what was mixed before, is what all frames given to the device by its end need
 pub mixed-behind : (device : DeviceSeen) (handed n : ℕ) → IsDevice device → mixed_for device handed + mixed_by device handed n ≡ mixed_for device (handed + n)
 mixed-behind device handed n d = let grows = mixed-grows device handed (handed + n) d (omega arith) in omega (arith, grows)
 

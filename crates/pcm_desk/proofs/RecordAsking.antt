@@ -1,4 +1,4 @@
--- What a request does to a record book: it notes something, sets the book up anew, or drops its bytes.
+-- What a request does to a record book: it notes something, sets the book up again, or drops its bytes.
 use Rattle.std.proofs.Common.{◌≡◌, ℕ, Bool, true, false, cond, ◌⊎◌, inl, inr, refl, sym, ◌∙◌, subst}
 use Rattle.std.specs.Prelude.{nat_lt}
 use Rattle.pcm_format.specs.declared.settings.Settings.{Settings}
@@ -21,7 +21,7 @@ use Rattle.pcm_desk.proofs.Openings.{Setting, Staying, opening-ask-does}
 
 -- ---- what a request does
 
--- it notes something: the counts stay, a position is told that was reached, and a book in Setup may start
+-- it notes something: the counts stay, the last position answered is one that was reached, and a book in Setup may start
 pub record Notes (old new : RecordBook) : Type 0 where
   pub settings : new.opening.settings ≡ old.opening.settings
   pub fragments : new.opening.fragments ≡ old.opening.fragments
@@ -32,7 +32,7 @@ pub record Notes (old new : RecordBook) : Type 0 where
   pub told : (new.opening.told ≡ old.opening.told) ⊎ (new.opening.told ≡ old.kept)
   pub state : (new.state ≡ old.state) ⊎ ((old.state ≡ Setup) × (new.state ≡ Running))
 
--- it sets a book up anew that is in Setup, within the limits
+-- it sets up again a book that is in Setup, within the limits
 pub record SetsUp (old new : RecordBook) : Type 0 where
   pub setup : is_record_setup old.state ≡ true
   pub rate : IsRate old.opening.settings.rate → IsRate new.opening.settings.rate
@@ -109,7 +109,7 @@ set_trigger_in : (wrong : Bool) (bits : ℕ) (book : RecordBook) → Does book (
 set_trigger_in true bits book = untouched book
 set_trigger_in false bits book = trigger_in (has_record_bit bits) book
 
--- a position that was told
+-- a position that was answered
 position_told : (book : RecordBook) → Does book (record book { opening = record book.opening { told = book.kept } })
 position_told book = Noting (record { settings = refl; fragments = refl; captured = refl; given = refl; kept = refl; read = refl; told = inr refl; state = inl refl })
 

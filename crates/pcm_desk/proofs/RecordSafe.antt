@@ -127,7 +127,7 @@ record-safe-captured rate n book s = captured_at book.state rate n book s
 
 -- ---- a request
 
--- a position that was told was reached
+-- a position that was answered was reached
 reached : (old new : RecordBook) → new.kept ≡ old.kept → old.opening.told ≤ old.kept → (new.opening.told ≡ old.opening.told) ⊎ (new.opening.told ≡ old.kept) → new.opening.told ≤ new.kept
 reached old new same s t = elim t [ inl before ↦ omega (arith, same, before) | inr now ↦ omega (arith, same, now) ]
 

@@ -1,4 +1,4 @@
--- What is refused leaves the book as it was, and what a write or a read comes to that isn't.
+-- What is refused leaves the book as it was; and the outcome of a write or a read that isn't refused.
 use Rattle.std.proofs.Common.{◌≡◌, ℕ, ◌+◌, ◌≤◌, Bool, true, false, cond, eqb, min, Option, Some, None, Result, Ok, Err, refl, ap, arith}
 use Rattle.std.specs.Prelude.{nat_lt, ◌&&◌, option_map, IsErr}
 use Rattle.std.proofs.lemmas.Bool.Decides.{nat_tests}

@@ -6,11 +6,12 @@ use Rattle.pcm_desk.specs.declared.play_book.PlayBook.{PlayBook}
 use Rattle.pcm_desk.specs.declared.record_book.RecordBook.{RecordBook}
 use Rattle.pcm_desk.specs.declared.map_book.MapBook.{MapBook}
 use Rattle.pcm_desk.specs.Device.{DeviceSeen, mixed_for}
-use Rattle.pcm_desk.specs.Desk.{Desk, capturing, interrupt_turn, map_at, map_mixing, map_passing, map_unopened, mixed_by, mixing, play_at, play_passing, play_unopened, record_at, record_unopened, settling, with_map, with_play, with_record}
+use Rattle.pcm_desk.specs.Channels.{Mapped, Playing, Recording, capturing, map_mixing, map_passing, mixed_by, mixing, play_passing, settling}
+use Rattle.pcm_desk.specs.Desk.{Desk, interrupt_turn, map_at, map_unopened, play_at, play_unopened, record_at, record_unopened, with_channel_at}
 
 -- the book of a slot after one book was set
 pub play_at-with : (device : DeviceSeen) (desk : Desk) (at slot : ℕ) (book : PlayBook)
-    → ((slot ≡ at) × (play_at device (with_play desk at book) slot ≡ book)) ⊎ (play_at device (with_play desk at book) slot ≡ play_at device desk slot)
+    → ((slot ≡ at) × (play_at device (with_channel_at desk at (Playing book)) slot ≡ book)) ⊎ (play_at device (with_channel_at desk at (Playing book)) slot ≡ play_at device desk slot)
 play_at-with device desk at slot book =
     elim (cases_lt at (length desk.play)) [
       | inl here ↦ elim (cases_eq slot at) [
@@ -40,7 +41,7 @@ play_at-passing device desk n slot =
 
 -- the record book of a slot after one was set
 pub record_at-with : (device : DeviceSeen) (desk : Desk) (at slot : ℕ) (book : RecordBook)
-    → ((slot ≡ at) × (record_at device (with_record desk at book) slot ≡ book)) ⊎ (record_at device (with_record desk at book) slot ≡ record_at device desk slot)
+    → ((slot ≡ at) × (record_at device (with_channel_at desk at (Recording book)) slot ≡ book)) ⊎ (record_at device (with_channel_at desk at (Recording book)) slot ≡ record_at device desk slot)
 record_at-with device desk at slot book =
     elim (cases_lt at (length desk.recording)) [
       | inl here ↦ elim (cases_eq slot at) [
@@ -61,7 +62,7 @@ record_at-capturing device desk n slot =
 
 -- the mapped book of a slot after one was set
 pub map_at-with : (device : DeviceSeen) (desk : Desk) (at slot : ℕ) (book : MapBook)
-    → ((slot ≡ at) × (map_at device (with_map desk at book) slot ≡ book)) ⊎ (map_at device (with_map desk at book) slot ≡ map_at device desk slot)
+    → ((slot ≡ at) × (map_at device (with_channel_at desk at (Mapped book)) slot ≡ book)) ⊎ (map_at device (with_channel_at desk at (Mapped book)) slot ≡ map_at device desk slot)
 map_at-with device desk at slot book =
     elim (cases_lt at (length desk.mapped)) [
       | inl here ↦ elim (cases_eq slot at) [

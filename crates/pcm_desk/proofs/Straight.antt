@@ -1,4 +1,4 @@
--- A device that gets what is mixed as it is: as many frames are mixed as are handed over, and these are they.
+-- A device that gets what is mixed as it is: it is given as many frames as are mixed, and the same ones.
 use Rattle.std.proofs.Common.{◌≡◌, ◌==◌, ◌&&◌, ◌<◌, ◌≤◌, ◌+◌, ◌-◌, ℕ, ℤ, pos, negsuc, true, nat_le, List, [], ◌∷◌, ◌++◌, length, map, take, drop, get_or, All, refl, sym, ap, ◌∙◌, arith}
 use Rattle.std.specs.List.{range_with_len}
 use Rattle.std.proofs.lemmas.Bool.{and_parts, cond-true, cond_both, eqb-true}
@@ -27,7 +27,7 @@ use Rattle.pcm_plan.specs.Through.{rec, recs, through}
 use Rattle.pcm_plan.specs.Fits.{TurnsEach}
 use Rattle.pcm_plan.proofs.Fits.{each-depth, record-level}
 use Rattle.pcm_desk.specs.Device.{DeviceSeen, device_settings, filters_of, full_frame, is_straight, mix_settings, mixed_for, parent_plan, quality_of}
-use Rattle.pcm_desk.specs.Desk.{mixed_by}
+use Rattle.pcm_desk.specs.Channels.{mixed_by}
 
 -- ---- what is equal
 
@@ -64,7 +64,7 @@ straight-bits device straight =
 
 -- ---- how many frames
 
--- as many frames are mixed as are handed over
+-- as many frames are mixed as the device is given
 pub straight-count : (device : DeviceSeen) (handed : ℕ) → is_straight device ≡ true → mixed_for device handed ≡ handed
 straight-count device handed straight =
     let from = mix_settings device in
@@ -73,7 +73,7 @@ straight-count device handed straight =
     ap (λ (rate : Rate). need rate handed) (record-level (filters_of device) (quality_of device) to from same)
     ∙ need-unchanged handed
 
--- so an interrupt mixes as many as it hands over
+-- so an interrupt mixes as many as it gives to the device
 pub straight-by : (device : DeviceSeen) (handed n : ℕ) → is_straight device ≡ true
     → mixed_by device handed n ≡ n
 straight-by device handed n straight =
@@ -129,7 +129,7 @@ straight-each device straight =
     All-same TurnsEach (parent_plan device).stages (depth_stages bits channels) (straight-stages device straight)
     (each-depth TurnsEach bits channels (record { unrated = refl; nothing = refl }))
 
--- samples of so many bits, brought to 32 and back
+-- samples of `bits` bits, brought to 32 and back
 there-and-back : (bits : ℕ) (frame : Frame) → at_bits bits (map (at_full bits) frame) ≡ frame
 there-and-back bits [] = refl
 there-and-back bits (sample ∷ frame) =
@@ -156,7 +156,7 @@ depth-back tables bits channels x k frame here =
     (λ whole. here ∙ ap (λ (n : ℕ). map (at_full n) frame) (eqb-true bits 32 whole) ∙ full-same frame)
     (λ fewer. ap (at_bits bits) here ∙ there-and-back bits frame)
 
--- where a mixed frame comes to the plan at 32 bits, it is handed over as it was mixed
+-- where a mixed frame gets to the plan at 32 bits, the device is given it as it was mixed
 straight-at : (device : DeviceSeen) (x : List Frame) (k : ℕ) (frame : Frame) → is_straight device ≡ true
     → stream_of (channels_of (mix_settings device).layout) x (pos k) ≡ full_frame device frame
     → rec (parent_plan device) (filters_of device) x k ≡ frame
@@ -168,7 +168,7 @@ straight-at device x k frame straight here =
     ∙ depth-back tables (bits_of to.format) (channels_of to.layout) sound k frame
     (here ∙ ap (λ (bits : ℕ). map (at_full bits) frame) (straight-bits device straight))
 
--- mixed frames behind any others are handed over as they were mixed
+-- after any others, the device is given mixed frames as they were mixed
 pub straight-behind : (device : DeviceSeen) (x frames : List Frame) → is_straight device ≡ true
     → recs (parent_plan device) (filters_of device) (x ++ map (full_frame device) frames) (length x) (length frames)
     ≡ frames
@@ -183,7 +183,7 @@ straight-behind device x frames straight =
     ∙ map-range-shift given (length x) 0 (length frames)
     ∙ ap (λ start. map given (range_with_len start (length frames))) none)
 
--- a mixed frame is handed over as it was mixed
+-- the device is given a mixed frame as it was mixed
 pub straight-rec : (device : DeviceSeen) (frames : List Frame) (k : ℕ) (other : Frame)
     → is_straight device ≡ true → k < length frames
     → rec (parent_plan device) (filters_of device) (map (full_frame device) frames) k ≡ get_or frames k other

@@ -1,4 +1,4 @@
--- What the rules read of a device. Whatever a device has beside it is read by one more word here.
+-- What the rules read of a device. A rule that reads more of a device does so by one more definition here.
 use Rattle.std.specs.Prelude.{ℕ, ℤ, pos, ◌<◌, ◌≤◌, ◌+◌, ◌*◌, ◌/◌, ◌-ℤ◌, ◌*ℤ◌, Bool, ◌&&◌, ◌==◌, if◌then◌else◌, map}
 use Rattle.pcm_num.specs.Floor.{floor_div}
 use Rattle.pcm_format.specs.declared.settings.Settings.{Settings}
@@ -18,7 +18,7 @@ use Rattle.pcm_desk.specs.declared.limits.TheConstants.{MIX_FRAMES, RING_FRAMES}
 use Rattle.pcm_oss.specs.declared.event.TheConstants.{SLOTS}
 
 pub record DeviceSeen : Type 0 where
-  -- the frames that are handed over, and captured
+  -- the frames that the device is given, and captures
   pub settings : Settings
   -- the frames that are mixed
   pub mix : Settings
@@ -31,7 +31,7 @@ pub record DeviceSeen : Type 0 where
   pub quality : ℕ
   pub filters : Filters
 
--- what a device is seen as, beside the filters and sections of its run
+-- a device as the rules see it, with the filters and sections of its run
 abbrev pub seen : Filters → Device → DeviceSeen
 seen filters device = record {
   settings = device.settings;
@@ -49,7 +49,7 @@ seen filters device = record {
 abbrev pub unfiltered : Device → DeviceSeen
 unfiltered device = seen no_filters device
 
--- the settings of the frames that are handed over
+-- the settings of the frames that the device is given
 abbrev pub device_settings : DeviceSeen → Settings
 device_settings device = device.settings
 
@@ -69,7 +69,7 @@ record_slots device = device.recorders
 abbrev pub map_slots : DeviceSeen → ℕ
 map_slots device = device.maps
 
--- how many slots are mixed: those that play, and behind them those of mapped areas
+-- how many slots are mixed: those that play, and after them those of mapped areas
 abbrev pub mixed_slots : DeviceSeen → ℕ
 mixed_slots device = play_slots device + map_slots device
 
@@ -81,7 +81,7 @@ ring_frames device = device.ring
 abbrev pub block_frames : DeviceSeen → ℕ
 block_frames device = device.block
 
--- the bytes of a frame that is handed over
+-- the bytes of a frame that the device is given
 abbrev pub device_frame_bytes : DeviceSeen → ℕ
 device_frame_bytes device = frame_bytes (device_settings device)
 
@@ -109,11 +109,11 @@ record_plan_between device settings = plan_record (filters_of device) (quality_o
 abbrev pub record_rate_between : DeviceSeen → Settings → Rate
 record_rate_between device settings = rate_in_plan (record_plan_between device settings)
 
--- the plan from the mix to the frames that are handed over
+-- the plan from the mix to the device's frames
 abbrev pub parent_plan : DeviceSeen → PlanSeen
 parent_plan device = plan_record (filters_of device) (quality_of device) (device_settings device) (mix_settings device)
 
--- the change of rate from the mix to the frames that are handed over
+-- the change of rate from the mix to the device's frames
 abbrev pub parent_rate : DeviceSeen → Rate
 parent_rate device = rate_in_plan (parent_plan device)
 
@@ -121,24 +121,24 @@ parent_rate device = rate_in_plan (parent_plan device)
 abbrev pub full_frame : DeviceSeen → Frame → Frame
 full_frame device frame = map (at_full (bits_of (mix_settings device).format)) frame
 
--- what is mixed is handed over as it is: with as many channels, at the same rate, and with as many bits
+-- the device is given what is mixed as it is: with as many channels, at the same rate, and with as many bits
 abbrev pub is_straight : DeviceSeen → Bool
 is_straight device =
     channels_of (mix_settings device).layout == channels_of (device_settings device).layout
     && (mix_settings device).rate == (device_settings device).rate
     && bits_of (mix_settings device).format == bits_of (device_settings device).format
 
--- how many frames are mixed once so many were handed over: as many as these need
+-- how many frames are mixed once the device has been given `handed` frames: as many as these need
 abbrev pub mixed_for : DeviceSeen → ℕ → ℕ
 mixed_for device handed = need (parent_rate device) handed
 
--- How many frames of the mix have left the device's ring once so many were handed over: what lasts as long as these without the
--- silence that the ring began with. It is below 0 until all of that has left.
+-- How many frames of the mix have left the device's ring once the device has been given `handed` frames: what lasts as long as these
+-- without the silence that the ring began with. It is below 0 until all of that has left.
 abbrev pub passed_for : DeviceSeen → ℕ → ℤ
 passed_for device handed =
     floor_div ((pos handed -ℤ pos (ring_frames device)) *ℤ pos (mix_settings device).rate) (device_settings device).rate
 
--- where the mix and the device are once so many frames were handed over
+-- where the mix and the device are once the device has been given `handed` frames
 abbrev pub here_at : DeviceSeen → ℕ → Here
 here_at device handed = record { mixed = mixed_for device handed; passed = passed_for device handed }
 

@@ -13,7 +13,7 @@ use Rattle.pcm_desk.specs.Device.{DeviceSeen, device_frame_bytes, ring_frames}
 use Rattle.pcm_desk.specs.Desk.{Desk, after}
 use Rattle.pcm_desk.specs.Own.{descriptor_of}
 
--- how many bytes a write may have: a line spells so many, and a file as many as it has
+-- how many bytes a write may have: on a line at most WRITE_BYTES, in a file any number
 abbrev pub IsWriteOf : Source → ℕ → Type 0
 IsWriteOf Inline count = count ≤ WRITE_BYTES
 IsWriteOf (File place) count = Unit {0}
@@ -38,7 +38,7 @@ abbrev pub frames_taken : Event → ℕ
 frames_taken (Intr frames) = frames
 frames_taken event = 0
 
--- the bytes that an event hands over
+-- the bytes that an event gives to the device
 abbrev pub bytes_handed : DeviceSeen → Event → ℕ
 bytes_handed device event = frames_taken event * device_frame_bytes device
 

@@ -6,7 +6,7 @@ use Rattle.pcm_desk.specs.declared.here.Here.{Here}
 abbrev pub held_most : ℕ
 held_most = 2 ^ 19
 
--- what was handed over was mixed, and no more is held than a ring and a filter hold
+-- what the device has been given was mixed, and no more is held than a ring and a filter hold
 pub record IsHere (here : Here) : Type 0 where
   pub past : here.passed ≤ℤ pos here.mixed
   pub held : pos here.mixed ≤ℤ (here.passed +ℤ pos held_most)

@@ -12,6 +12,7 @@ pub mod RecordSafe
 pub mod MapBooks
 pub mod MapRequests
 pub mod MapSafe
+pub mod Channels
 pub mod Desk
 pub mod Own
 pub mod Events

@@ -35,7 +35,7 @@ taken_of book = book.eaten * frame_bytes book.opening.settings
 abbrev pub map_begun : Settings → MapBook
 map_begun settings = record { opening = openings.begun settings; volume = VOLUME; state = Setup; eaten = 0; given = 0 }
 
--- nothing of a run is left, and positions begin anew
+-- nothing of a run is left, and positions begin at 0 again
 abbrev pub map_emptied : MapState → MapBook → MapBook
 map_emptied state book = record book { opening = record book.opening { told = 0 }; state = state; eaten = 0; given = 0 }
 
@@ -47,7 +47,7 @@ map_halted book = map_emptied Setup book
 abbrev pub map_closed : MapBook → MapBook
 map_closed book = map_emptied Free book
 
--- A poke of so many bytes from an offset on: what passes the end of the area is refused. The book counts no byte of it.
+-- A poke of `count` bytes from an offset on: what passes the end of the area is refused. The book counts no byte of it.
 abbrev pub poke_turn : ℕ → ℕ → MapBook → Turn MapBook
 poke_turn offset count book = if nat_lt (ring_bytes book.opening) (offset + count) then refused Inval book else doing book
 

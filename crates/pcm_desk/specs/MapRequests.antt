@@ -57,7 +57,7 @@ map_set_trigger bits book = if nat_lt 3 bits then refused Inval book else doing 
 -- ---- the table
 
 -- What a request asks of a mapped book: its own lines, and then those of every opening. It is never short and has no ring that fills, so
--- there are no errors, and no space or delay is told.
+-- there are no errors, and it answers neither space nor delay.
 abbrev pub map_ask : Request → MapBook → Turn MapBook
 map_ask GetOPtr book = map_with_opening book (tell_pointer (taken_of book) book.opening)
 map_ask GetError book = telling (Errors 0 0) book

@@ -20,5 +20,5 @@ pub record MapIsSafe (rate : Rate) (book : MapBook) : Type 0 where
   pub taken : book.eaten ≡ need rate book.given
   pub fragments : AreFragments book.opening.fragments
   pub volume : is_volume book.volume ≡ true
-  -- no position was told that wasn't reached
+  -- each position answered was reached
   pub told : book.opening.told ≤ taken_of book

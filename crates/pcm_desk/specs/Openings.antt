@@ -1,4 +1,4 @@
--- What an opening has whichever its way: what its client has set, and the position that it knows. What is asked of every opening
+-- What every opening has, whatever its way: what its client has set, and the position last answered. And what is asked of every opening
 -- alike, with whether nothing of a run is there yet.
 use Rattle.std.specs.Prelude.{ℕ, ◌-◌, ◌/◌, ◌%◌, Bool, true, ◌&&◌, nat_le, ◌==◌, if◌then◌else◌, Option, Some, None, option_map, Result, Ok, Err}
 use Rattle.pcm_format.specs.declared.format.Format.{Format}
@@ -83,16 +83,16 @@ set_fragments setup arg opening =
 
 -- ---- positions and room
 
--- so many bytes of the ring
+-- `bytes` bytes of the ring as an answer
 abbrev pub space_of : ℕ → Opening → Answer
 space_of bytes opening = Space (bytes / fragment_bytes opening) opening.fragments.count (fragment_bytes opening) bytes
 
--- how far a channel has come: bytes, fragments that were passed since it was told last, and the place in the ring
+-- how far a channel is: bytes, fragments that were passed since the last answer, and the place in the ring
 abbrev pub pointer_of : ℕ → Opening → Answer
 pointer_of reached opening =
     Pointer reached (reached / fragment_bytes opening - opening.told / fragment_bytes opening) (reached % ring_bytes opening)
 
--- the position is told, which the next one counts from
+-- the position is answered, and the next answer counts from it
 abbrev pub tell_pointer : ℕ → Opening → Turn Opening
 tell_pointer reached opening = telling (pointer_of reached opening) (record opening { told = reached })
 

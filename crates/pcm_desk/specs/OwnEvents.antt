@@ -1,4 +1,4 @@
--- What the events of one descriptor come to along a list of events, from its opening on until its close.
+-- What the events of one descriptor do along a list of events, from its opening on until its close.
 use Rattle.std.specs.Prelude.{◌≡◌, ℕ, ◌+◌, Bool, true, false, ◌==◌, if◌then◌else◌, List, [], ◌∷◌, Option, Some, None, Result, IsErr}
 use Rattle.pcm_format.specs.declared.settings.Settings.{Settings}
 use Rattle.pcm_oss.specs.declared.event.Event.{Event}
@@ -9,13 +9,11 @@ use Rattle.pcm_oss.specs.declared.reply.Errno.{Errno}
 use Rattle.pcm_wave.specs.declared.pool.Source.TheVariants.{Inline}
 use Rattle.pcm_desk.specs.declared.device.Held.{Held}
 use Rattle.pcm_desk.specs.Device.{DeviceSeen}
-use Rattle.pcm_desk.specs.PlayBooks.{play_begun}
-use Rattle.pcm_desk.specs.RecordBooks.{record_begun}
-use Rattle.pcm_desk.specs.MapBooks.{map_begun}
-use Rattle.pcm_desk.specs.Desk.{Desk, DeskTurn, after, by_way, held_by}
+use Rattle.pcm_desk.specs.Channels.{Channel, own_turn, ungrouped}
+use Rattle.pcm_desk.specs.Desk.{Desk, DeskTurn, after, held_by}
 use Rattle.pcm_desk.specs.declared.turn.Turn.{Turn}
 use Rattle.pcm_desk.specs.Events.{frames_taken}
-use Rattle.pcm_desk.specs.Own.{Channel, Playing, Recording, Mapped, descriptor_of, own_turn, ungrouped}
+use Rattle.pcm_desk.specs.Own.{descriptor_of}
 
 -- a descriptor is this one; none is nobody's
 abbrev pub names : ℕ → Option ℕ → Bool
@@ -58,21 +56,21 @@ own_events fd [] = []
 own_events fd (event ∷ events) =
     if concerns fd event then unnamed event ∷ (if closes fd event then [] else own_events fd events) else own_events fd events
 
--- the replies to these events, at a desk and all that comes of it
+-- the replies to these events, from this desk on
 abbrev pub replies_to : DeviceSeen → ℕ → Desk → List Event → List (Result Answer Errno)
 replies_to device fd desk [] = []
 replies_to device fd desk (event ∷ events) =
     let turn : DeskTurn = after device desk event in
     if concerns fd event then turn.reply ∷ (if closes fd event then [] else replies_to device fd turn.desk events) else replies_to device fd turn.desk events
 
--- no join of a descriptor is accepted until its close, at a desk and all that comes of it
+-- no join of a descriptor is accepted until its close, from this desk on
 abbrev pub JoinsNone : DeviceSeen → ℕ → Desk → List Event → Type 0
 JoinsNone device fd desk [] = Unit {0}
 JoinsNone device fd desk (event ∷ events) =
     let turn : DeskTurn = after device desk event in
     (joins fd event ≡ true → IsErr turn.reply) × (closes fd event ≡ false → JoinsNone device fd turn.desk events)
 
--- the replies to the own events of a channel of no group and the interrupts between them, by its book alone and how many frames were handed over before
+-- the replies to the own events of a channel of no group and the interrupts between them, by its book alone, after `handed` frames
 abbrev pub own_replies : DeviceSeen → ℕ → Channel → List Event → List (Result Answer Errno)
 own_replies device handed channel [] = []
 own_replies device handed channel (event ∷ events) =
@@ -84,10 +82,6 @@ abbrev pub own_after : DeviceSeen → ℕ → Channel → List Event → Channel
 own_after device handed channel [] = channel
 own_after device handed channel (event ∷ events) =
     own_after device (handed + frames_taken event) (own_turn device handed ungrouped event channel).book events
-
--- a channel whose opening begins
-abbrev pub channel_begun : Way → Settings → Channel
-channel_begun way settings = by_way way (Playing (play_begun settings)) (Recording (record_begun settings)) (Mapped (map_begun settings))
 
 -- a descriptor that was shut is opened at a desk, and holds this channel then
 pub record Opens (device : DeviceSeen) (fd : ℕ) (way : Way) (settings : Settings) (held : Held) (old new : Desk) : Type 0 where

@@ -32,7 +32,7 @@ abbrev pub is_draining : PlayState → Bool
 is_draining (Draining _) = true
 is_draining state = false
 
--- a book that nobody has takes no bytes, nor does one that drains
+-- a free book takes no bytes, nor does one that drains
 abbrev pub takes_none : PlayState → Bool
 takes_none Free = true
 takes_none state = is_draining state
@@ -91,7 +91,7 @@ play_emptied state book = record book { state = state; written = 0; eaten = 0; g
 abbrev pub finished : PlayState → PlayBook → PlayBook
 finished state book = record (play_emptied state book) { done = book.done + frames_written book * frame_bytes book.opening.settings }
 
--- all bytes are dropped, and positions begin anew
+-- all bytes are dropped, and positions begin at 0 again
 abbrev pub play_dropped : PlayBook → PlayBook
 play_dropped book = record (play_emptied Setup book) { opening = record book.opening { told = 0 }; done = 0 }
 
@@ -108,7 +108,7 @@ may_start book = book.opening.trigger && nat_le (fragment_bytes book.opening) (p
 abbrev pub play_is_ready : PlayBook → Bool
 play_is_ready book = is_primed book.state && nat_lt 0 (frames_written book)
 
--- a run starts where so many frames were mixed
+-- a run starts where `mixed` frames were mixed
 abbrev pub started_at : ℕ → PlayState → PlayBook → PlayBook
 started_at mixed state book = record book { state = state; last = mixed }
 
@@ -117,7 +117,7 @@ abbrev pub started_in : ℕ → PlayState → PlayBook → PlayBook
 started_in mixed Primed book = if may_start book then started_at mixed Running book else book
 started_in mixed state book = book
 
--- `accepted` more bytes were written, where so many frames were mixed
+-- `accepted` more bytes were written, where `mixed` frames were mixed
 abbrev pub accepting : ℕ → ℕ → PlayBook → PlayBook
 accepting mixed accepted book =
     let more : PlayBook = record book { written = book.written + accepted } in
@@ -135,7 +135,7 @@ write_turn here length book =
 abbrev pub has_given_all : Rate → PlayBook → Bool
 has_given_all rate book = book.given == len rate (frames_written book)
 
--- and its last frame has left the device's ring, of which so many frames of the mix have
+-- and its last frame has left the device's ring, of which `passed` frames of the mix have
 abbrev pub is_over : Rate → ℤ → PlayBook → Bool
 is_over rate passed book = has_given_all rate book && int_le (pos book.last) passed
 
@@ -164,7 +164,7 @@ closed_in state book = book
 abbrev pub close_turn : Rate → Here → PlayBook → PlayBook
 close_turn rate here book = let drained : PlayBook = drained_in rate here book.state book in closed_in drained.state drained
 
--- behind the last frame that a run gives, of which the next n of the mix get `count`
+-- the position after the last frame that a run gives, where `count` of the next frames of the mix are its own
 abbrev pub last_after : ℕ → ℕ → PlayBook → ℕ
 last_after mixed count book = if nat_lt 0 count then mixed + count else book.last
 
@@ -172,7 +172,7 @@ last_after mixed count book = if nat_lt 0 count then mixed + count else book.las
 abbrev pub eaten_after : Rate → ℕ → PlayBook → ℕ
 eaten_after rate n book = max book.eaten (min (frames_written book) (need rate (book.given + n)))
 
--- What the next n frames of the mix need leaves the ring, and what is allowed of them goes into the mix, where so many were mixed.
+-- What the next n frames of the mix need leaves the ring, and what is allowed of them goes into the mix, after `mixed` frames.
 abbrev pub gives : Rate → ℕ → ℕ → PlayBook → PlayBook
 gives rate mixed n book = record book {
   eaten = eaten_after rate n book;
@@ -184,7 +184,7 @@ gives rate mixed n book = record book {
 abbrev pub underruns_after : Rate → ℕ → PlayBook → ℕ
 underruns_after rate n book = if nat_lt (giving rate n book) n then min (book.underruns + 1) (2 ^ 32 - 1) else book.underruns
 
--- an interrupt that mixes n frames, where so many were mixed
+-- an interrupt that mixes n frames, after `mixed`
 abbrev pub refilled_in : Rate → ℕ → PlayState → ℕ → PlayBook → PlayBook
 refilled_in rate mixed Running n book = record (gives rate mixed n book) { underruns = underruns_after rate n book }
 refilled_in rate mixed (Draining closed) n book = gives rate mixed n book

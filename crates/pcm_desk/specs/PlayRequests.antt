@@ -27,14 +27,14 @@ play_with_opening book turn = record { book = record book { opening = turn.book 
 abbrev pub set_volume : ℕ → PlayBook → Turn PlayBook
 set_volume volume book = if is_volume volume then telling (Number volume) (record book { volume = volume }) else refused Inval book
 
--- the shortages are told, and count from 0 again; a channel that plays has no overruns
+-- the shortages are answered, and count from 0 again; a channel that plays has no overruns
 abbrev pub play_tell_errors : PlayBook → Turn PlayBook
 play_tell_errors book = telling (Errors book.underruns 0) (record book { underruns = 0 })
 
 -- ---- the delay
 
--- behind the frames of the mix that a run may sound in so far: its own last one, once no more comes and all was given, else all that
--- are mixed
+-- the position after the frames of the mix that a run may sound in so far: its own last one, once no more comes and all was given, else
+-- all that are mixed
 abbrev pub mark_of : Rate → ℕ → PlayBook → ℕ
 mark_of rate mixed book = if is_draining book.state && has_given_all rate book then book.last else mixed
 

@@ -51,7 +51,7 @@ pub record PlayIsSafe (rate : Rate) (book : PlayBook) : Type 0 where
   pub fill : play_fill_of book ≤ ring_bytes book.opening
   pub fragments : AreFragments book.opening.fragments
   pub volume : is_volume book.volume ≡ true
-  -- no position was told that wasn't reached
+  -- each position answered was reached
   pub told : book.opening.told ≤ played_of book
 
 -- A book where the mix and the device are: no run gave a frame past what is mixed, and none that drains is over.
@@ -59,7 +59,7 @@ pub record PlayIsHere (rate : Rate) (here : Here) (book : PlayBook) : Type 0 whe
   pub last : is_started book.state ≡ true → book.last ≤ here.mixed
   pub left : is_draining book.state ≡ true → is_over rate here.passed book ≡ false
 
--- what is needed so that a delay can be told, by the rate between the book and the mix, and the rate of the mix
+-- what is needed to answer a delay, by the rate between the book and the mix, and the rate of the mix
 pub record CanTellDelay (rate : Rate) (mix_rate : ℕ) (here : Here) (book : PlayBook) : Type 0 where
   pub ratio : IsRatio rate
   pub client : IsRate book.opening.settings.rate

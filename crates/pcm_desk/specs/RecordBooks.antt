@@ -56,7 +56,7 @@ record_begun settings = record {
   overruns = 0;
 }
 
--- all bytes are dropped, and positions begin anew
+-- all bytes are dropped, and positions begin at 0 again
 abbrev pub record_emptied : RecordState → RecordBook → RecordBook
 record_emptied state book = record book {
   opening = record book.opening { told = 0 };

@@ -19,7 +19,7 @@ use Rattle.pcm_desk.specs.BookTurns.{doing, refused, telling}
 abbrev pub record_with_opening : RecordBook → Turn Opening → Turn RecordBook
 record_with_opening book turn = record { book = record book { opening = turn.book }; reply = turn.reply }
 
--- the overruns are told, and count from 0 again; a channel that records has no underruns
+-- the overruns are answered, and count from 0 again; a channel that records has no underruns
 abbrev pub record_tell_errors : RecordBook → Turn RecordBook
 record_tell_errors book = telling (Errors 0 book.overruns) (record book { overruns = 0 })
 

@@ -29,7 +29,7 @@ pub record RecordIsSafe (rate : Rate) (book : RecordBook) : Type 0 where
   pub read : book.read ≤ book.kept
   pub fill : record_fill_of book ≤ ring_bytes book.opening
   pub fragments : AreFragments book.opening.fragments
-  -- no position was told that wasn't reached
+  -- each position answered was reached
   pub told : book.opening.told ≤ book.kept
 
 -- what is needed so that of n more captured frames those can be kept that have room

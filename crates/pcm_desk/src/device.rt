@@ -1,25 +1,25 @@
-//! The device that all channels share, and who holds which channel.
+//! The device that all channels share, and which channel a descriptor holds.
 
 ghost use Rattle.std.specs.Prelude.{◌≡◌, ◌^◌, ◌≤ℤ◌, pos};
 
 use pcm_format::{Format, Layout, Settings};
 use pcm_oss::Way;
 
-/// What an open without settings means.
+/// The settings of an open that names none.
 pub const OPENING: Settings = Settings {
     format: Format::U8,
     layout: Layout::One,
     rate: 8000,
 };
 
-/// The greatest quality of the converters between the rates of clients and mix: 0 holds a frame, 1 draws lines, and from 2 on
-/// filters are taken, where there are some.
+/// The greatest quality of the converters between the rates of clients and mix: 0 holds the last frame, 1 interpolates on a line, and
+/// from 2 on filters are used, where there are some.
 pub const QUALITY_MOST: u32 = 4;
 
-/// What is settled of a device before the first event.
+/// What is fixed of a device before the first event.
 #[derive(Clone, Copy, Debug, PartialEq, Eq)]
 pub struct Device {
-    /// The frames that are handed over, and captured.
+    /// The frames that the device is given, and captures.
     pub settings: Settings,
     /// The frames that are mixed, of as many bits.
     pub mix: Settings,
@@ -64,7 +64,7 @@ impl Device {
         }
     }
 
-    /// Whether what is mixed is handed over as it is.
+    /// Whether the device is given what is mixed as it is.
     pub fn is_straight(&self) -> bool
         ensures { result ≡ is_straight (unfiltered self.now) }
     {
@@ -88,7 +88,7 @@ impl Device {
         }
     }
 
-    /// How many frames of the mix have left the ring once `handed` of the device were handed over. It is below 0 until the silence that
+    /// How many frames of the mix have left the ring once the device has been given `handed` frames. It is below 0 until the silence that
     /// the ring began with has left it.
     pub fn passed(&self, handed: u64) -> i64
         requires rates { HasRates self.now }

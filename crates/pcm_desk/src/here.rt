@@ -5,6 +5,6 @@
 pub struct Here {
     /// Frames that were mixed.
     pub mixed: u64,
-    /// Frames of the mix that were handed over. It is below 0 until the silence that the ring began with has left it.
+    /// Frames of the mix that have left the device's ring. It is below 0 until the silence that the ring began with has left it.
     pub passed: i64,
 }

@@ -27,10 +27,11 @@ ghost use Rattle.pcm_desk.specs.MapRequests.{map_ask};
 ghost use Rattle.pcm_desk.specs.MapSafe.{MapIsSafe};
 ghost use Rattle.pcm_desk.specs.Device.{DeviceSeen, IsInLimits, here_at, mixed_for, mixed_slots};
 ghost use Rattle.pcm_desk.specs.declared.device.Held.{Held};
-ghost use Rattle.pcm_desk.specs.Desk.{Desk, after, desk_at_start, held_by, is_member, mixer_by};
+ghost use Rattle.pcm_desk.specs.Channels.{channel_begun};
+ghost use Rattle.pcm_desk.specs.Desk.{Desk, after, channel_at, desk_at_start, held_by, is_member, mixer_by};
+ghost use Rattle.pcm_desk.specs.Own.{HoldApart, IsIsolated, MembersWait};
+ghost use Rattle.pcm_desk.specs.OwnEvents.{JoinsNone, Opens, closes, own_after, own_events, own_replies, replies_to};
 ghost use Rattle.pcm_desk.specs.Events.{after_all};
-ghost use Rattle.pcm_desk.specs.Own.{HoldApart, IsIsolated, MembersWait, channel_at};
-ghost use Rattle.pcm_desk.specs.OwnEvents.{JoinsNone, Opens, channel_begun, closes, own_after, own_events, own_replies, replies_to};
 
 /// The counts of a book stay in order through every event, for every rate between its client and the mix.
 pub fn books_stay_in_order()
@@ -49,7 +50,7 @@ pub fn books_stay_in_order()
         → PlayIsSafe rate book → PlayIsSafe rate (play_settled rate passed book) }
 {}
 
-/// No run gives a frame past what is mixed, and none that drains is over, through every event and wherever the device comes to be.
+/// No run gives a frame past what is mixed, and none that drains is over, through every event and wherever the device is.
 pub fn books_stay_here()
     ensures begun { (rate : Rate) (here : Here) (settings : Settings) → PlayIsHere rate here (play_begun settings) }
     ensures written { (rate : Rate) (here : Here) (length : ℕ) (book : PlayBook)
@@ -67,7 +68,7 @@ pub fn books_stay_here()
         → PlayIsHere rate here (play_settled rate here.passed book) }
 {}
 
-/// However many frames were handed over, as many were mixed, and no more are in the device's ring than it and a filter hold.
+/// However many frames the device has been given, they were mixed, and no more are in its ring than it and a filter hold.
 pub fn devices_hold_what_is_mixed()
     ensures { (device : DeviceSeen) (handed : ℕ) → IsInLimits device → mixed_for device handed < 2 ^ 56
         → IsHere (here_at device handed) }
@@ -130,7 +131,7 @@ pub fn the_mixer_alone_sets_volumes()
         ≡ record desk { mixer = mixer_after (mixed_slots device) request desk.mixer } }
 {}
 
-/// No client is told what others do, but that no slot is free and which one it got, and what a group that it joins is: what it is told goes by its
+/// No client learns what others do, but that no slot is free and which one it got, and what a group that it joins is: its replies go by its
 /// settings, its own events and the interrupts between them.
 pub fn openings_stand_alone()
     ensures isolated { (device : DeviceSeen) (event : Event) (desk : Desk) → HoldApart desk

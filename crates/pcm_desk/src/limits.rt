@@ -1,4 +1,4 @@
-//! The limits of a run: each has its one home here, for definitions and for code.
+//! The limits of a run, for definitions and for code: each is defined here alone.
 
 /// How many descriptors there are, from 0 on.
 pub const DESCRIPTORS: usize = 64;
@@ -12,7 +12,7 @@ pub const READ_BYTES: u32 = 4096;
 /// How many events a script has at most.
 pub const EVENTS: usize = 1048576;
 
-/// How many bytes all interrupts of a script hand over at most.
+/// How many bytes all interrupts of a script give to the device at most.
 pub const DEVICE_BYTES: u64 = 268435456;
 
 /// The greatest ring of a device, in frames.

@@ -2,7 +2,7 @@
 
 use crate::Opening;
 
-/// Where a mapped channel stands in its life.
+/// The state of a mapped channel.
 #[derive(Clone, Copy, Debug, PartialEq, Eq)]
 pub enum MapState {
     /// No descriptor has it.
@@ -22,6 +22,6 @@ pub struct MapBook {
     pub state: MapState,
     /// Frames taken out of the area since the start.
     pub eaten: u64,
-    /// Frames handed to the mix since the start.
+    /// Frames given to the mix since the start.
     pub given: u64,
 }

@@ -25,7 +25,7 @@ impl MapBook {
         }
     }
 
-    /// Whether nobody has the channel.
+    /// Whether the channel is free: no descriptor has it.
     pub fn is_free(&self) -> bool
         ensures { result ≡ is_map_free self.now.state }
     {

@@ -1,4 +1,4 @@
-//! What an opening has whichever its way, and what a client asks of every opening alike.
+//! What every opening has, whatever its way, and what a client asks of each alike.
 
 ghost use Rattle.std.specs.Prelude.{◌≡◌};
 ghost use Rattle.pcm_oss.specs.Fragments.{AreFragments};
@@ -23,7 +23,7 @@ pub struct Opening {
     pub fragments: Fragments,
     /// Whether the channel may start by itself, or by a post.
     pub trigger: bool,
-    /// The position that was told last, in bytes.
+    /// The position last answered, in bytes.
     pub told: u64,
 }
 
@@ -40,8 +40,8 @@ impl Opening {
         }
     }
 
-    /// The opening after a request that means the same for both ways, and the answer. `setup` tells that nothing of a run is there
-    /// yet, and `bit` is the trigger's of the way. What is asked of one way alone is refused.
+    /// The opening after a request that means the same for both ways, and the answer. `setup` says that nothing of a run is there
+    /// yet, and `bit` is the trigger bit of the way. What is asked of one way alone is refused.
     pub(crate) fn asked(self, setup: bool, bit: u32, request: Request) -> Turn<Opening>
         requires fragments { AreFragments self.fragments }
         ensures { result ≡ ask setup bit request self }
@@ -65,8 +65,8 @@ impl Opening {
         Turn::telling(self, Answer::Number(number))
     }
 
-    // The opening with other settings, or as it is where 0 asks for them. What isn't in its set is refused first, and then all that
-    // comes too late.
+    // The opening with other settings; 0 asks for those that are set. Settings outside their set are refused first, and then any outside
+    // Setup.
     fn with_settings(
         self,
         setup: bool,
@@ -144,7 +144,7 @@ impl Opening {
         if self.trigger { bit } else { 0 }
     }
 
-    /// What is told of so many bytes of the ring.
+    /// The answer about `bytes` bytes of the ring.
     pub(crate) fn space(&self, bytes: u32) -> Answer
         requires fragments { AreFragments self.now.fragments }
         ensures { result ≡ space_of bytes self.now }
@@ -158,7 +158,7 @@ impl Opening {
         }
     }
 
-    /// The opening once it was told that so many bytes are reached, and what is told.
+    /// The opening once its position is answered, and that answer.
     pub(crate) fn tell_pointer(self, reached: u64) -> Turn<Opening>
         requires fragments { AreFragments self.fragments }
         ensures { result ≡ tell_pointer reached self }

@@ -2,7 +2,7 @@
 
 use crate::Opening;
 
-/// Where a channel stands in its life.
+/// The state of a channel that plays.
 #[derive(Clone, Copy, Debug, PartialEq, Eq)]
 pub enum PlayState {
     /// No descriptor has it, and it has nothing left to play.
@@ -28,11 +28,11 @@ pub struct PlayBook {
     pub written: u64,
     /// Frames taken out of the ring in this run.
     pub eaten: u64,
-    /// Frames handed to the mix in this run.
+    /// Frames given to the mix in this run.
     pub given: u64,
     /// Bytes of the runs before this one that were played whole, since the opening or its last halt.
     pub done: u64,
-    /// Interrupts that found too few frames, since they were told last.
+    /// Interrupts that found too few frames, since they were last answered.
     pub underruns: u32,
     /// How many frames were mixed with the last frame that the run gave, or where it started.
     pub last: u64,

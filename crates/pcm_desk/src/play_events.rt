@@ -30,7 +30,7 @@ impl PlayBook {
         }
     }
 
-    /// Whether nobody has the channel, and nothing of it is left to play.
+    /// Whether the channel is free: no descriptor has it, and nothing of it is left to play.
     pub fn is_free(&self) -> bool
         ensures { result ≡ is_play_free self.now.state }
     {
@@ -112,14 +112,14 @@ impl PlayBook {
         )
     }
 
-    // Whether the book takes no bytes: nobody has it, or it drains.
+    // Whether the book takes no bytes: it is free, or drains.
     fn takes_none(&self) -> bool
         ensures { result ≡ takes_none self.now.state }
     {
         matches!(self.state, PlayState::Free | PlayState::Draining { .. })
     }
 
-    // The book after `accepted` more bytes, where so many frames were mixed.
+    // The book after `accepted` more bytes, where `mixed` frames were mixed.
     fn accepting(self, mixed: u64, accepted: u64) -> PlayBook
         requires count { self.written + accepted < 2 ^ 64 }
         requires eaten { self.eaten * frame_bytes self.opening.settings ≤ self.written }
@@ -158,7 +158,7 @@ impl PlayBook {
         }
     }
 
-    // A run starts where so many frames were mixed.
+    // A run starts where `mixed` frames were mixed.
     pub(crate) fn started_at(self, mixed: u64, state: PlayState) -> PlayBook
         ensures { result ≡ started_at mixed state self }
     {
@@ -241,7 +241,7 @@ impl PlayBook {
         }
     }
 
-    // All bytes are dropped, and positions begin anew.
+    // All bytes are dropped, and positions begin at 0 again.
     pub(crate) fn dropped(self) -> PlayBook
         ensures { result ≡ play_dropped self }
     {
@@ -304,7 +304,7 @@ impl PlayBook {
         u128::from(n).min(allowed.saturating_sub(u128::from(self.given))) as u64
     }
 
-    /// The book after an interrupt that mixes `n` frames, where so many were mixed before.
+    /// The book after an interrupt that mixes `n` frames, where `mixed` were mixed before.
     pub fn refilled(self, rate: Rate, mixed: u64, n: u64) -> PlayBook
         requires rate { IsRatio rate }
         requires count { self.given + n < 2 ^ 64 }
@@ -340,7 +340,7 @@ impl PlayBook {
         }
     }
 
-    // Behind the last frame that the run gives, of which the mix gets `count` more.
+    // The position after the last frame that the run gives, where the mix gets `count` more of its frames.
     fn last_after(&self, mixed: u64, count: u64) -> u64
         requires { mixed + count < 2 ^ 64 }
         ensures { result ≡ last_after mixed count self.now }

@@ -93,7 +93,7 @@ impl PlayBook {
         lasting as u32 * settings.frame_bytes() as u32
     }
 
-    // Behind the frames of the mix that the run may sound in so far.
+    // The position after the frames of the mix that the run may sound in so far.
     fn mark(&self, rate: Rate, mixed: u64) -> u64
         requires { IsRatio rate }
         ensures { result ≡ mark_of rate mixed self.now }

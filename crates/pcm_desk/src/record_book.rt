@@ -2,7 +2,7 @@
 
 use crate::Opening;
 
-/// Where a channel that records stands in its life.
+/// The state of a channel that records.
 #[derive(Clone, Copy, Debug, PartialEq, Eq)]
 pub enum RecordState {
     /// No descriptor has it.
@@ -20,12 +20,12 @@ pub struct RecordBook {
     pub state: RecordState,
     /// Frames of the device captured since the start.
     pub captured: u64,
-    /// Frames of the client that came of them.
+    /// Frames of the client made of them.
     pub given: u64,
     /// Bytes kept of these since the start.
     pub kept: u64,
     /// Bytes read since the start.
     pub read: u64,
-    /// Interrupts that brought more frames than there was room for, since they were told last.
+    /// Interrupts that brought more frames than there was room for, since they were last answered.
     pub overruns: u32,
 }

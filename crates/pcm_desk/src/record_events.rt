@@ -28,7 +28,7 @@ impl RecordBook {
         }
     }
 
-    /// Whether nobody has the channel.
+    /// Whether the channel is free: no descriptor has it.
     pub fn is_free(&self) -> bool
         ensures { result ≡ is_record_free self.now.state }
     {
@@ -76,7 +76,7 @@ impl RecordBook {
         }
     }
 
-    // All bytes are dropped, and positions begin anew.
+    // All bytes are dropped, and positions begin at 0 again.
     pub(crate) fn dropped(self) -> RecordBook
         ensures { result ≡ record_dropped self }
     {

@@ -1,4 +1,4 @@
-//! What an event comes to.
+//! The outcome of an event.
 
 ghost use Rattle.std.specs.Prelude.{◌≡◌};
 ghost use Rattle.pcm_desk.specs.BookTurns.{refused, telling};
@@ -13,7 +13,7 @@ pub struct Turn<B> {
 }
 
 impl<B> Turn<B> {
-    /// The book after what was done, and what is told of it.
+    /// The book after what was done, and the answer.
     pub fn telling(book: B, answer: Answer) -> Turn<B>
         ensures { result ≡ telling answer book }
     {

@@ -26,7 +26,8 @@ use Rattle.pcm_desk.specs.declared.map_book.MapState.{MapState}
 use Rattle.pcm_desk.specs.declared.map_book.MapState.TheVariants as map_states
 use Rattle.pcm_desk.specs.MapBooks.{is_map_free, map_refilled_in}
 use Rattle.pcm_desk.specs.Device.{DeviceSeen, map_slots, mix_settings, mixed_for, mixed_slots, passed_for, play_slots}
-use Rattle.pcm_desk.specs.Desk.{map_at, map_mixing, map_rate_at, mixed_by, mixing, play_at, play_passing, play_rate_at}
+use Rattle.pcm_desk.specs.Channels.{map_mixing, map_rate_at, mixed_by, mixing, play_passing, play_rate_at}
+use Rattle.pcm_desk.specs.Desk.{map_at, play_at}
 use Rattle.pcm_desk.proofs.Slots.{map_at-passing, play_at-passing}
 use Rattle.pcm_sound.specs.Gains.{GainSet, book_gain, last_gain, map_gain}
 use Rattle.pcm_sound.specs.Runs.{Run, marking, playing, sounding}
@@ -91,7 +92,7 @@ next_playing : (device : DeviceSeen) (story : Story) (n slot position : ℕ) →
     → next_table device story n slot position ≡ slot_faded device story slot (sounding device (last_gain (story.gains slot) position) (next_play device story n slot) position)
 next_playing device story n slot position below = let plays : nat_lt slot (play_slots device) ≡ true = grind (arith, nat_tests) in rw plays refl
 
--- and behind them what the mapped ones give
+-- and after them what the mapped ones give
 next_mapped : (device : DeviceSeen) (story : Story) (n slot position : ℕ)
     → next_table device story n (play_slots device + slot) position ≡ slot_faded device story (play_slots device + slot) (sounding device (last_gain (story.map_gains slot) position) (next_map device story n slot) position)
 next_mapped device story n slot position =
@@ -130,7 +131,7 @@ fold-front device story n (suc j) few v =
     (λ k l. sym (ap (λ slots. mix_of (bits_of (mix_settings device).format) (silence_in (mix_settings device)) (next_table device story n) slots (story.desk.mixed + (0 + k))) next
     ∙ mix_of-more (bits_of (mix_settings device).format) (silence_in (mix_settings device)) (next_table device story n) j (story.desk.mixed + (0 + k))))
 
--- and so is that with the first mapped slots behind them
+-- and so is that with the first mapped slots after them
 fold-back : (device : DeviceSeen) (story : Story) (n j : ℕ) → StoryIsValid device story → (front : List ℤ) → front ≡ flat_map (front_mix device story n (play_slots device)) (range_with_len 0 n)
     → mapped_onto device n (map_gains story.desk.mixer (play_slots device)) story.desk.mapped (map_bytes_counted device story) story.areas j front ≡ flat_map (front_mix device story n (play_slots device + j)) (range_with_len 0 n)
 fold-back device story n zero v front is = is ∙ ap (λ slots. flat_map (front_mix device story n slots) (range_with_len 0 n)) (let e : play_slots device ≡ play_slots device + 0 = omega arith in e)
@@ -237,7 +238,7 @@ map_gains-kept device pool story n slot =
     (story.map_gains slot))
     (quiet (is_map_free old.state) (is_map_free new.state) old.volume new.volume q.free q.volume)
 
--- what the slots give once an interrupt of n frames is told
+-- what the slots give after an interrupt of n frames
 told_play : (device : DeviceSeen) (pool : Pool) (story : Story) (n slot position : ℕ) → let new : Story = told device pool story (Intr n) in
     sounding device (last_gain (new.gains slot) position) (new.runs slot) position
     ≡ sounding device (last_gain (story.gains slot) position) (next_play device story (mixed_by device story.desk.handed n) slot) position

@@ -88,7 +88,7 @@ named-fits device pool (Close fd) fits = tt
 named-fits device pool (Mixer request) fits = tt
 named-fits device pool (Intr frames) fits = tt
 
--- so many bytes are brought as are named
+-- an event brings as many bytes as it names
 pub length-brought : (pool : Pool) (event : Event) → HasNamed pool event → length (bytes_brought pool event) ≡ bytes_asked event
 length-brought pool (Open fd way settings) named = refl
 length-brought pool (Write fd source at count) named =

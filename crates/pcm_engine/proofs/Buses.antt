@@ -1,4 +1,4 @@
--- The bus of an engine: what an interrupt mixes, and what an event leaves of it that hands nothing over.
+-- The bus of an engine: what an interrupt mixes, and what is left of it by an event that gives nothing to the device.
 use Rattle.std.proofs.Common.{◌≡◌, ◌≤◌, ℕ, ap, subst, sym, ◌∙◌, arith}
 use Rattle.pcm_feeder.specs.Filters.{Filters}
 use Rattle.pcm_feeder.specs.Kept.{Kept}

@@ -14,8 +14,8 @@ use Rattle.pcm_feeder.specs.Kept.{Kept}
 use Rattle.pcm_desk.specs.declared.device.Device.{Device}
 use Rattle.pcm_desk.specs.Device.{DeviceSeen, device_settings, seen}
 use Rattle.pcm_desk.specs.Desk.{Desk, after}
-use Rattle.pcm_desk.specs.Events.{Fits, bytes_handed}
 use Rattle.pcm_desk.specs.Own.{MembersWait}
+use Rattle.pcm_desk.specs.Events.{Fits, bytes_handed}
 use Rattle.pcm_sound.specs.DeviceList.{device_body}
 use Rattle.pcm_sound.specs.OwnAreas.{ChangesOneArea}
 use Rattle.pcm_sound.specs.Story.{story_of, story_at_start, told}
@@ -36,7 +36,7 @@ use Rattle.pcm_engine.proofs.Bringing.{descriptor-fits, wherever}
 use Rattle.pcm_engine.proofs.Recording.{all-record, answered-told, recorders-told, reply-made}
 use Rattle.pcm_engine.proofs.Standing.{Parts, StandsFor, Stepped, body-told, stands-told}
 
--- What an event that brings such bytes and samples leaves of an engine and its parts, what is answered, and what is handed over.
+-- What an event that brings these bytes and samples leaves of an engine and its parts, its reply, and the bytes that the device gets.
 pub record Applied {B : Type 0} (kind : B → Kind) (kept : B → Kept) (event : Event) (bytes : List ℕ) (samples : List ℤ) (old new : EngineOf B) (reply : Reply) (handed : List ℕ) : Type 0 where
   pub device : new.parent.device ≡ old.parent.device
   pub tables : new.tables ≡ old.tables

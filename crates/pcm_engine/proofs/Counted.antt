@@ -59,7 +59,7 @@ counted-taking_at false byte bytes old written run runs e w newest =
     take_all written (run.bytes ++ byte ∷ bytes) (omega (arith, length-append run.bytes (byte ∷ bytes)))
     ∙ ap (λ bs. bs ++ byte ∷ bytes) (sym (take_all old.written run.bytes (omega arith)))
 
--- bytes that are taken go behind those that are counted
+-- bytes that are taken stand after those that are counted
 counted-taking : (more : List ℕ) (old : PlayBook) (written : ℕ) (runs : List Run) → written ≡ old.written + length more → (0 < old.written → IsNewest old runs)
     → take written (newest_bytes (taking more old runs)) ≡ take old.written (newest_bytes runs) ++ more
 counted-taking [] old written runs w newest = ap (λ n. take n (newest_bytes runs)) (w ∙ (let e : old.written + 0 ≡ old.written = omega arith in e)) ∙ sym (append-nil (take old.written (newest_bytes runs)))

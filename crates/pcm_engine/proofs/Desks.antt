@@ -1,7 +1,8 @@
 -- The desk of an engine, through an interrupt.
 use Rattle.std.proofs.Common.{◌≡◌, ℕ, ◌+◌, map}
 use Rattle.pcm_desk.specs.Device.{DeviceSeen}
-use Rattle.pcm_desk.specs.Desk.{capturing, interrupt_turn, map_passing, mixed_by, play_passing}
+use Rattle.pcm_desk.specs.Channels.{capturing, map_passing, mixed_by, play_passing}
+use Rattle.pcm_desk.specs.Desk.{interrupt_turn}
 use Rattle.pcm_vchan.specs.declared.parent.ParentOf.{ParentOf}
 use Rattle.pcm_vchan.specs.Parents.{map_books, play_books, record_books}
 use Rattle.pcm_engine.specs.declared.descriptors.Descriptors.{Descriptors}

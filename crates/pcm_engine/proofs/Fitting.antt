@@ -1,4 +1,4 @@
--- An engine hands over few frames, and no count of a book runs ahead of them: so all counts fit 64 bits.
+-- An engine gives few frames to the device, and no count of a book runs ahead of them: so all counts fit 64 bits.
 use Rattle.std.proofs.Common.{◌≡◌, ℕ, ◌+◌, ◌*◌, ◌^◌, ◌<◌, ◌≤◌, ap, arith}
 use Rattle.std.proofs.Math.Nat.{mul-le-mul_right}
 use Rattle.pcm_format.specs.Frames.{frame_bytes}
@@ -13,7 +13,7 @@ use Rattle.pcm_desk.specs.declared.play_book.PlayBook.{PlayBook}
 use Rattle.pcm_desk.specs.declared.play_book.PlayState.{PlayState}
 use Rattle.pcm_desk.specs.declared.play_book.PlayState.TheVariants.{Free, Setup, Primed, Running, Draining}
 use Rattle.pcm_desk.specs.Device.{DeviceSeen, IsDevice, parent_plan, parent_rate, play_plan_between, seen}
-use Rattle.pcm_desk.specs.Desk.{map_rate_at}
+use Rattle.pcm_desk.specs.Channels.{map_rate_at}
 use Rattle.pcm_desk.specs.MapBooks.{taken_of}
 use Rattle.pcm_desk.specs.PlaySafe.{IsPlayInOrder, PlayIsSafe}
 use Rattle.pcm_desk.proofs.Ratios.{parent-plan-fits, plan-between-fits}
@@ -25,7 +25,7 @@ use Rattle.pcm_vchan.specs.Parents.{HasBus}
 use Rattle.pcm_engine.specs.declared.limits.TheConstants.{LIFE}
 use Rattle.pcm_engine.specs.Life.{PlayKeepsPace, bytes_for_frame}
 
--- a frame that is handed over needs 48 of the mix at most
+-- a frame of the device needs 48 of the mix at most
 pub mixed-few : {B : Type 0} (kept : B → Kept) (device : DeviceSeen) (parent : ParentOf B) → HasBus kept device parent → parent.handed ≤ LIFE → parent.mixed ≤ 48 * LIFE + 33
 mixed-few kept device parent has few =
     let most = need-near (parent_rate device) parent.handed (rate-near (parent_plan device) (parent-plan-fits device has.planned.limits)) in

@@ -15,7 +15,9 @@ use Rattle.pcm_desk.specs.declared.record_book.RecordBook.{RecordBook}
 use Rattle.pcm_desk.specs.declared.here.Here.{Here}
 use Rattle.pcm_desk.specs.Here.{IsHere}
 use Rattle.pcm_desk.specs.Device.{DeviceSeen, IsDevice, IsInLimits, passed_for, seen}
-use Rattle.pcm_desk.specs.Desk.{Desk, desk_here, map_rate_at, map_unopened, play_at, play_rate_at, record_rate_at, record_unopened, play_unopened}
+use Rattle.pcm_desk.specs.Channels.{map_rate_at, play_rate_at, record_rate_at}
+use Rattle.pcm_desk.specs.Desk.{Desk, desk_here, map_unopened, play_at, play_unopened, record_unopened}
+use Rattle.pcm_desk.specs.Own.{MembersWait}
 use Rattle.pcm_desk.specs.MapBooks.{taken_of}
 use Rattle.pcm_desk.specs.PlaySafe.{PlayIsHere, PlayIsSafe}
 use Rattle.pcm_desk.specs.RecordSafe.{RecordIsSafe}
@@ -42,7 +44,6 @@ use Rattle.pcm_engine.specs.Life.{MapKeepsPace, PlayKeepsPace, RecordKeepsPace}
 use Rattle.pcm_engine.specs.Answered.{CanBeAsked}
 use Rattle.pcm_engine.proofs.Fitting.{bytes-few, mixed-few, taken-few}
 use Rattle.pcm_engine.proofs.Pace.{ReliesOn, near-rate}
-use Rattle.pcm_desk.specs.Own.{MembersWait}
 use Rattle.pcm_engine.specs.Engines.{AreReady, BooksAreHere, MapBooksAreSafe, RecordsAreSafe, RingsHold, desk_of, device_of}
 
 -- ---- channels that play
@@ -91,7 +92,7 @@ here-seen kept engine has = ap (λ (mixed : ℕ). record { mixed = mixed; passed
 pub relies : {B : Type 0} (kind : B → Kind) (kept : B → Kept) (engine : EngineOf B) → AreReady kind kept engine → ReliesOn (device_of engine) (desk_of engine)
 relies kind kept engine ready = record { device_is = ready.limits.device_is; rates = books-rates engine ready.limits.device_is; records_safe = ready.records; maps_safe = ready.maps }
 
--- few frames were mixed, since few were handed over
+-- few frames were mixed, since the device has been given few
 pub few-mixed : {B : Type 0} (kept : B → Kept) (engine : EngineOf B) → HasBus kept (device_of engine) engine.parent → engine.parent.mixed < 2 ^ 53
 few-mixed kept engine has = omega (arith, mixed-few kept (device_of engine) engine.parent has engine.life)
 
@@ -220,7 +221,7 @@ closable kind kept engine ready = record {
 
 -- ---- counts
 
--- no channel runs ahead of what was mixed and handed over
+-- no channel runs ahead of what was mixed and given to the device
 pub play-pace : {B : Type 0} (engine : EngineOf B) (slot : ℕ) (other : PlayChannelOf B) → slot < length (play_channels engine.parent) → PlayKeepsPace engine.parent.mixed (get_or (play_channels engine.parent) slot other).book
 play-pace {B} engine slot other there =
     let book : PlayChannelOf B → PlayBook = λ channel. channel.book in

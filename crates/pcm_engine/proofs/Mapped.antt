@@ -23,7 +23,8 @@ use Rattle.pcm_desk.specs.declared.map_book.MapState.TheVariants.{Free, Setup, R
 use Rattle.pcm_desk.specs.Device.{DeviceSeen, filters_of, seen}
 use Rattle.pcm_desk.specs.MapBooks.{is_map_free, is_map_running, map_closed, map_refilled_in, taken_of}
 use Rattle.pcm_desk.specs.MapSafe.{MapIsSafe}
-use Rattle.pcm_desk.specs.Desk.{Desk, map_at, map_mixing, map_rate_at, map_unopened, mixed_by}
+use Rattle.pcm_desk.specs.Channels.{map_mixing, map_rate_at, mixed_by}
+use Rattle.pcm_desk.specs.Desk.{Desk, map_at, map_unopened}
 use Rattle.pcm_desk.specs.Events.{Fits, frames_taken}
 use Rattle.pcm_desk.proofs.Slots.{map_at-passing}
 use Rattle.pcm_sound.specs.Areas.{area_after, area_bytes, holds_map, is_recut, poked, silences, silent_area, written_by}
@@ -61,7 +62,7 @@ none_of n one other e = ap (λ k. take k one) e ∙ sym (ap (λ k. take k other)
 no_more : (taken : ℕ) (bytes : List ℕ) → take taken bytes ≡ take taken (take taken bytes ++ [])
 no_more taken bytes = sym (ap (take taken) (append-nil (take taken bytes)) ∙ take-take taken taken bytes (omega arith))
 
--- the runs of a slot once its book is told, by whether it ran and runs
+-- the runs of a slot after an event, by whether its book ran and runs
 abbrev marked_by : Bool → Bool → ℕ → MapBook → List Run → List Run
 marked_by was is mixed new runs = cond (not was && is) (mapped_run mixed new ∷ runs) (cond (was && not is) (map_stopped mixed runs) runs)
 
@@ -134,7 +135,7 @@ pub map_at-books : {B : Type 0} (device : DeviceSeen) (desk : Desk) (maps : List
 map_at-books {B = B} device desk maps slot other mapped there =
     ap (λ (books : List MapBook). get_or books slot (map_unopened device)) mapped ∙ get_or-map (λ (c : MapChannelOf B). c.book) maps slot other (map_unopened device) there
 
--- what an event leaves of a channel stands for its slot of the story that is told
+-- what an event leaves of a channel stands for its slot of the story after that event
 abbrev Told : {B : Type 0} → (B → Kept) → DeviceSeen → Pool → Story → Event → ℕ → MapChannelOf B → MapChannelOf B → Type 0
 Told kept device pool story event slot old new =
     map_at device story.desk slot ≡ old.book → map_at device (told device pool story event).desk slot ≡ new.book

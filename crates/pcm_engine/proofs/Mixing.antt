@@ -16,7 +16,7 @@ use Rattle.pcm_feeder.specs.Streams.{HaveChannels, interleaved}
 use Rattle.pcm_feeder.proofs.Frames.{frames_of-interleaved}
 use Rattle.pcm_plan.specs.Through.{recs}
 use Rattle.pcm_desk.specs.Device.{DeviceSeen, device_frame_bytes, device_settings, filters_of, full_frame, mix_settings, mixed_for, parent_plan, ring_frames}
-use Rattle.pcm_desk.specs.Desk.{mixed_by}
+use Rattle.pcm_desk.specs.Channels.{mixed_by}
 use Rattle.pcm_desk.proofs.Ratios.{mixed-behind}
 use Rattle.pcm_sound.specs.Story.{Story, told}
 use Rattle.pcm_sound.specs.DeviceList.{device_bytes, mix_at, mixed_frames, table_of}
@@ -59,7 +59,7 @@ raised-block device pool story n v =
     (channels_of-above layout) (told-channels device pool story n story.desk.mixed q v))
     ∙ map-map (full_frame device) mix positions
 
--- behind what was mixed before, it is what is mixed once n more were handed over
+-- with it, what was mixed before becomes what is mixed once the device has been given n more frames
 pub mixed-on : (device : DeviceSeen) (pool : Pool) (story : Story) (n : ℕ) → StoryIsValid device story
     → story_frames device story story.desk.handed ++ raised_frames device (story_block device story n)
     ≡ story_frames device (told device pool story (Intr n)) (story.desk.handed + n)
@@ -75,7 +75,7 @@ mixed-on device pool story n v =
     ∙ sym (mixed_frames-more device mix (mixed_for device handed) q)
     ∙ ap (mixed_frames device mix) (mixed-behind device handed n v.limits)
 
--- the same, behind as many frames as the desk counts
+-- the same, from as many frames as the desk counts
 pub mixed-on_counted : (device : DeviceSeen) (pool : Pool) (story : Story) (n : ℕ) → StoryIsValid device story
     → mixed_frames device (story_mix device story) story.desk.mixed
     ++ raised_frames device (story_block device story n)
@@ -85,11 +85,11 @@ mixed-on_counted device pool story n v =
     ap (λ count. mixed_frames device (story_mix device story) count ++ more) v.mixed
     ∙ mixed-on device pool story n v
 
--- nothing is mixed before the first frame is handed over
+-- nothing is mixed before the device is given its first frame
 pub mixed-start : (device : DeviceSeen) (mix : ℕ → Frame) → mixed_frames device mix (mixed_for device 0) ≡ []
 mixed-start device mix = refl
 
--- an event that hands nothing over leaves what is mixed
+-- an event that gives nothing to the device leaves what is mixed
 pub mixed-kept : (device : DeviceSeen) (pool : Pool) (story : Story) (event : Event) → StoryIsValid device story
     → (told device pool story event).desk.handed ≡ story.desk.handed
     → story_frames device (told device pool story event) (told device pool story event).desk.handed
@@ -99,7 +99,7 @@ mixed-kept device pool story event v same =
 
 -- ---- the device's ring
 
--- an interrupt of n frames hands the n oldest over, and what the plan makes of all that is mixed comes behind the rest
+-- an interrupt of n frames gives the n oldest to the device, and after the rest comes what the plan makes of all that is mixed
 pub ring-on : (device : DeviceSeen) (pool : Pool) (story : Story) (n : ℕ) (ring : List ℕ) → StoryIsValid device story
     → n ≤ ring_frames device
     → ring ≡ drop (story.desk.handed * device_frame_bytes device) (device_bytes device story)

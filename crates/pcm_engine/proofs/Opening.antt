@@ -15,7 +15,8 @@ use Rattle.pcm_oss.specs.declared.reply.Errno.{Errno}
 use Rattle.pcm_desk.specs.PlayBooks.{play_begun}
 use Rattle.pcm_desk.specs.RecordBooks.{record_begun}
 use Rattle.pcm_desk.specs.MapBooks.{map_begun}
-use Rattle.pcm_desk.specs.Desk.{by_way, held_by, least_free_map, least_free_play, least_free_record, open_turn, slot_number}
+use Rattle.pcm_desk.specs.Channels.{by_way}
+use Rattle.pcm_desk.specs.Desk.{held_by, least_free_map, least_free_play, least_free_record, open_turn, slot_number, after}
 use Rattle.pcm_play.specs.declared.channel.PlayChannelOf.{PlayChannelOf}
 use Rattle.pcm_record.specs.declared.channel.RecordChannelOf.{RecordChannelOf}
 use Rattle.pcm_map.specs.declared.channel.MapChannelOf.{MapChannelOf}
@@ -38,7 +39,7 @@ pub record Opens {B : Type 0} (kind : B → Kind) (kept : B → Kept) (filters :
 abbrev pub least_of : {B : Type 0} → Way → ParentOf B → Option ℕ
 least_of way parent = by_way way (least_free_play (play_books parent)) (least_free_record (record_books parent)) (least_free_map (map_books parent))
 
--- it is taken, and its number is told
+-- it is taken, and its number is in the reply
 pub opened-least : {B : Type 0} (kind : B → Kind) (kept : B → Kept) (filters : Filters) (settings : Settings) (way : Way) (old new : ParentOf B) (result : Result ℕ Errno) (told : ℕ)
     → Opens kind kept filters settings way old new result → result ≡ Ok told
     → (least_of way old ≡ Some (slot_place old.device.play_slots way told)) × (slot_number old.device.play_slots way (slot_place old.device.play_slots way told) ≡ told)
@@ -49,7 +50,7 @@ opened-least kind kept filters settings Record old new result told opens is =
 opened-least kind kept filters settings Map old new result told opens is =
     slot-found Map old.device.play_slots (least_free_map (map_books old)) told (sym (opens.mapped refl).begins.found ∙ is)
 
--- a mapped one is told behind those that play
+-- a mapped one is numbered after those that play
 pub opened-behind : {B : Type 0} (kind : B → Kind) (kept : B → Kept) (filters : Filters) (settings : Settings) (way : Way) (old new : ParentOf B) (result : Result ℕ Errno) (told : ℕ)
     → Opens kind kept filters settings way old new result → result ≡ Ok told → way ≡ Map → old.device.play_slots ≤ told
 opened-behind kind kept filters settings way old new result told opens is map =

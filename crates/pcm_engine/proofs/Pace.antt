@@ -1,5 +1,5 @@
--- No count of a desk runs ahead of what was mixed and handed over, whatever events come; and so all of them fit 64 bits for long.
-use Rattle.std.proofs.Common.{◌≡◌, ℕ, ℤ, zero, suc, ◌+◌, ◌*◌, ◌<◌, ◌≤◌, Bool, true, false, cond, All, List, length, get_or, Option, Some, inl, inr, refl, sym, ap, subst, arith}
+-- No count of a desk runs ahead of what was mixed and given to the device, whatever events come; so all of them fit 64 bits for long.
+use Rattle.std.proofs.Common.{◌≡◌, ℕ, ℤ, zero, suc, ◌+◌, ◌*◌, ◌<◌, ◌≤◌, Bool, true, false, cond, All, List, length, get_or, Option, Some, inl, inr, refl, sym, ap, subst, arith, Err, None, Ok, Result}
 use Rattle.std.specs.Prelude.{eqb, nat_lt, nat_le, min, ◌&&◌}
 use Rattle.std.proofs.lemmas.Bool.{and_parts, cases_lt, eqb-true}
 use Rattle.std.proofs.lemmas.List.{get_or_default, get_or_past}
@@ -22,7 +22,6 @@ use Rattle.pcm_feeder.specs.Limits.{IsRate}
 use Rattle.pcm_plan.specs.Plans.{rate_in_plan}
 use Rattle.pcm_chain.specs.Counts.{IsNear}
 use Rattle.pcm_chain.proofs.Counting.{rate-near}
-use Rattle.pcm_group.specs.declared.sync_groups.Groups.{Groups}
 use Rattle.pcm_group.specs.Groups.{change_in}
 use Rattle.pcm_group.proofs.Members.{get_or-change_in, length-change_in, used-some}
 use Rattle.pcm_desk.specs.declared.device.Held.{Held}
@@ -41,17 +40,18 @@ use Rattle.pcm_desk.specs.declared.turn.Turn.{Turn}
 use Rattle.pcm_desk.specs.Device.{DeviceSeen, IsDevice, mix_settings, mixed_for, passed_for, play_plan_between}
 use Rattle.pcm_desk.specs.BookTurns.{doing, refused, telling}
 use Rattle.pcm_desk.specs.Openings.{fragment_bytes, ring_bytes}
-use Rattle.pcm_desk.specs.PlayBooks.{accepting, close_turn, closed_in, drained_in, finished, frames_written, giving, is_over, play_begun, play_dropped, play_emptied, play_fill_of, play_free_of, play_settled, refilled_in, started_at, started_in, takes_none, write_turn}
+use Rattle.pcm_desk.specs.PlayBooks.{accepting, close_turn, closed_in, drained_in, finished, frames_written, giving, is_over, play_dropped, play_emptied, play_fill_of, play_free_of, play_settled, refilled_in, started_at, started_in, takes_none, write_turn}
 use Rattle.pcm_desk.specs.PlayRequests.{play_ask, play_roused_in, play_stopped_in, play_with_trigger}
 use Rattle.pcm_desk.specs.RecordBooks as records
-use Rattle.pcm_desk.specs.RecordBooks.{captured_in, is_running, record_begun, record_fill_of}
+use Rattle.pcm_desk.specs.RecordBooks.{captured_in, is_running, record_fill_of}
 use Rattle.pcm_desk.specs.RecordRequests.{record_ask}
 use Rattle.pcm_desk.specs.RecordSafe.{RecordIsSafe}
-use Rattle.pcm_desk.specs.MapBooks.{map_begun, map_closed, map_refilled_in, poke_turn}
+use Rattle.pcm_desk.specs.MapBooks.{map_refilled_in, poke_turn}
 use Rattle.pcm_desk.specs.MapRequests.{map_ask}
 use Rattle.pcm_desk.specs.MapSafe.{MapIsSafe}
-use Rattle.pcm_desk.specs.Desk.{Desk, DeskTurn, after, asking, both_bits, capturing, close_map, close_play, close_record, close_on, closing, desk_here, group_started, held_by, interrupt_turn, ioctl_on, leaving, map_at, map_mixing, map_passing, map_rate_at, map_turn, map_unopened, mixed_by, mixing, play_at, play_passing, play_rate_at, play_starting, play_turn, play_unopened, record_at, record_rate_at, record_starting, record_turn, record_unopened, refusing, with_map, with_play, with_record}
-use Rattle.pcm_desk.proofs.Grouping.{by-asking, by-joining, by-starting}
+use Rattle.pcm_desk.specs.Channels.{both_bits, capturing, map_mixing, map_passing, map_rate_at, mixed_by, mixing, play_passing, play_rate_at, play_starting, record_rate_at, record_starting, Channel, Mapped, Playing, Recording, channel_begun, member_refusal, own_close, own_ioctl, own_join, own_poke, own_read, own_request, own_turn, own_write}
+use Rattle.pcm_desk.specs.Desk.{Desk, DeskTurn, after, desk_here, group_started, held_by, interrupt_turn, map_at, map_unopened, play_at, play_unopened, record_at, record_unopened, channel_at, channel_turn, grouping_at, is_member, with_channel_at}
+use Rattle.pcm_desk.proofs.Grouping.{by-starting}
 use Rattle.pcm_desk.proofs.MapLeaves as map_leaves
 use Rattle.pcm_desk.proofs.PlayAsking.{Dropping, Ending, Noting, SettingUp, Starting, Stopping, ask-does, noting}
 use Rattle.pcm_desk.proofs.Ratios.{plan-between-fits}
@@ -61,6 +61,9 @@ use Rattle.pcm_sound.proofs.Stories.{HaveRates}
 use Rattle.pcm_record.proofs.Capturing.{kept-most}
 use Rattle.pcm_engine.specs.Engines.{MapBooksAreSafe, RecordsAreSafe}
 use Rattle.pcm_engine.specs.Life.{KeepsPace, MapKeepsPace, PlayKeepsPace, RecordKeepsPace}
+use Rattle.pcm_desk.proofs.Channels.{channel_named}
+use Rattle.pcm_oss.specs.declared.event.Way.TheVariants.{Map, Play, Record}
+use Rattle.pcm_oss.specs.declared.reply.Errno.{Errno}
 
 -- ---- books that play
 
@@ -316,19 +319,30 @@ record_slot device desk slot p = at_slot (RecordKeepsPace desk.handed) desk.reco
 map_slot : (device : DeviceSeen) (desk : Desk) (slot : ℕ) → KeepsPace desk → MapKeepsPace desk.mixed (map_at device desk slot)
 map_slot device desk slot p = at_slot (MapKeepsPace desk.mixed) desk.mapped slot (map_unopened device) (record { given = omega arith }) p.mapped
 
--- one book is another
-play_set : (desk : Desk) (slot : ℕ) (book : PlayBook) → PlayKeepsPace desk.mixed book → KeepsPace desk → KeepsPace (with_play desk slot book)
-play_set desk slot book its p = record { playing = All-set (PlayKeepsPace desk.mixed) desk.play slot book its p.playing; recording = p.recording; mapped = p.mapped }
+-- a channel runs ahead of nothing
+abbrev ChannelKeepsPace : Desk → Channel → Type 0
+ChannelKeepsPace desk (Playing book) = PlayKeepsPace desk.mixed book
+ChannelKeepsPace desk (Recording book) = RecordKeepsPace desk.handed book
+ChannelKeepsPace desk (Mapped book) = MapKeepsPace desk.mixed book
 
-record_set : (desk : Desk) (slot : ℕ) (book : RecordBook) → RecordKeepsPace desk.handed book → KeepsPace desk → KeepsPace (with_record desk slot book)
-record_set desk slot book its p = record { playing = p.playing; recording = All-set (RecordKeepsPace desk.handed) desk.recording slot book its p.recording; mapped = p.mapped }
+channel_pace : (device : DeviceSeen) (desk : Desk) (held : Held) → KeepsPace desk → ChannelKeepsPace desk (channel_at device desk held)
+channel_pace device desk held p = at held.way
+  where
+    at : (way : Way) → ChannelKeepsPace desk (channel_at device desk (channel_named way held.slot))
+    at Play = play_slot device desk held.slot p
+    at Record = record_slot device desk held.slot p
+    at Map = map_slot device desk held.slot p
 
-map_set : (desk : Desk) (slot : ℕ) (book : MapBook) → MapKeepsPace desk.mixed book → KeepsPace desk → KeepsPace (with_map desk slot book)
-map_set desk slot book its p = record { playing = p.playing; recording = p.recording; mapped = All-set (MapKeepsPace desk.mixed) desk.mapped slot book its p.mapped }
+begun_pace : (desk : Desk) (way : Way) (settings : Settings) → ChannelKeepsPace desk (channel_begun way settings)
+begun_pace desk Play settings = record { played = omega arith }
+begun_pace desk Record settings = record { captured = omega arith; kept = omega arith }
+begun_pace desk Map settings = record { given = omega arith }
 
--- descriptors, groups and volumes count nothing
-others : (desk : Desk) (descriptors : List (Option Held)) (groups : Groups) → KeepsPace desk → KeepsPace (record desk { descriptors = descriptors; groups = groups })
-others desk descriptors groups p = record { playing = p.playing; recording = p.recording; mapped = p.mapped }
+-- one channel is another
+channel_set : (desk : Desk) (slot : ℕ) (channel : Channel) → ChannelKeepsPace desk channel → KeepsPace desk → KeepsPace (with_channel_at desk slot channel)
+channel_set desk slot (Playing book) its p = record { playing = All-set (PlayKeepsPace desk.mixed) desk.play slot book its p.playing; recording = p.recording; mapped = p.mapped }
+channel_set desk slot (Recording book) its p = record { playing = p.playing; recording = All-set (RecordKeepsPace desk.handed) desk.recording slot book its p.recording; mapped = p.mapped }
+channel_set desk slot (Mapped book) its p = record { playing = p.playing; recording = p.recording; mapped = All-set (MapKeepsPace desk.mixed) desk.mapped slot book its p.mapped }
 
 -- what an event relies on
 pub record ReliesOn (device : DeviceSeen) (desk : Desk) : Type 0 where
@@ -337,19 +351,58 @@ pub record ReliesOn (device : DeviceSeen) (desk : Desk) : Type 0 where
   pub records_safe : RecordsAreSafe device desk
   pub maps_safe : MapBooksAreSafe device desk
 
-relies_others : (device : DeviceSeen) (desk : Desk) (groups : Groups) → ReliesOn device desk → ReliesOn device (record desk { groups = groups })
-relies_others device desk groups r = record { device_is = r.device_is; rates = r.rates; records_safe = r.records_safe; maps_safe = r.maps_safe }
+-- ---- the turn of a channel
 
-ioctl_pace : (device : DeviceSeen) (held : Option Held) (desk : Desk) (request : Request) → ReliesOn device desk → KeepsPace desk → KeepsPace (ioctl_on device held desk request).desk
-ioctl_pace device held desk request r p =
-    let here : Here = desk_here device desk in
-    by-turning KeepsPace (play_turn device (asking device here request) desk) (record_turn device (record_ask request) desk) (map_turn device (map_ask request) desk) held desk p
-    (λ slot. let old : PlayBook = play_at device desk slot in
-    play_set desk slot (asking device here request old).book (ask_pace (play_rate_at device old) (mix_settings device).rate here request desk.mixed old (near-rate device old.opening.settings r.device_is (r.rates slot)) (play_slot device desk slot p)) p)
-    (λ slot. let old : RecordBook = record_at device desk slot in
-    record_set desk slot (record_ask request old).book (record_ask_pace (record_rate_at device old) request desk.handed old (r.records_safe slot) (record_slot device desk slot p)) p)
-    (λ slot. let old : MapBook = map_at device desk slot in
-    map_set desk slot (map_ask request old).book (map_ask_pace (map_rate_at device old) request desk.mixed old (r.maps_safe slot) (map_slot device desk slot p)) p)
+asked_pace : (device : DeviceSeen) (desk : Desk) (held : Held) (request : Request) → ReliesOn device desk → KeepsPace desk → ChannelKeepsPace desk (own_ioctl device (desk_here device desk) request (channel_at device desk held)).book
+asked_pace device desk held request r p = at held.way
+  where
+    at : (way : Way) → ChannelKeepsPace desk (own_ioctl device (desk_here device desk) request (channel_at device desk (channel_named way held.slot))).book
+    at Play = let old : PlayBook = play_at device desk held.slot in
+        ask_pace (play_rate_at device old) (mix_settings device).rate (desk_here device desk) request desk.mixed old (near-rate device old.opening.settings r.device_is (r.rates held.slot)) (play_slot device desk held.slot p)
+    at Record = let old : RecordBook = record_at device desk held.slot in record_ask_pace (record_rate_at device old) request desk.handed old (r.records_safe held.slot) (record_slot device desk held.slot p)
+    at Map = let old : MapBook = map_at device desk held.slot in map_ask_pace (map_rate_at device old) request desk.mixed old (r.maps_safe held.slot) (map_slot device desk held.slot p)
+
+requested_pace : (device : DeviceSeen) (desk : Desk) (held : Held) (request : Request) (refusal : Option Errno) → ReliesOn device desk → KeepsPace desk
+    → ChannelKeepsPace desk (own_request device (desk_here device desk) request refusal (channel_at device desk held)).book
+requested_pace device desk held request None r p = asked_pace device desk held request r p
+requested_pace device desk held request (Some errno) r p = channel_pace device desk held p
+
+joined_pace : (device : DeviceSeen) (desk : Desk) (held : Held) (result : Result ℕ Errno) → ReliesOn device desk → KeepsPace desk → ChannelKeepsPace desk (own_join device (desk_here device desk) result (channel_at device desk held)).book
+joined_pace device desk held (Ok group) r p = asked_pace device desk held (SetTrigger 0) r p
+joined_pace device desk held (Err errno) r p = channel_pace device desk held p
+
+wrote_pace : (device : DeviceSeen) (desk : Desk) (held : Held) (count : ℕ) → KeepsPace desk → ChannelKeepsPace desk (own_write (desk_here device desk) count (channel_at device desk held)).book
+wrote_pace device desk held count p = at held.way
+  where
+    at : (way : Way) → ChannelKeepsPace desk (own_write (desk_here device desk) count (channel_at device desk (channel_named way held.slot))).book
+    at Play = write_pace (desk_here device desk) desk.mixed count (play_at device desk held.slot) (play_slot device desk held.slot p)
+    at Record = record_slot device desk held.slot p
+    at Map = map_slot device desk held.slot p
+
+poked_pace : (device : DeviceSeen) (desk : Desk) (held : Held) (offset count : ℕ) → KeepsPace desk → ChannelKeepsPace desk (own_poke offset count (channel_at device desk held)).book
+poked_pace device desk held offset count p = at held.way
+  where
+    at : (way : Way) → ChannelKeepsPace desk (own_poke offset count (channel_at device desk (channel_named way held.slot))).book
+    at Play = play_slot device desk held.slot p
+    at Record = record_slot device desk held.slot p
+    at Map = poke_pace offset count desk.mixed (map_at device desk held.slot) (map_slot device desk held.slot p)
+
+got_pace : (device : DeviceSeen) (desk : Desk) (held : Held) (count : ℕ) → KeepsPace desk → ChannelKeepsPace desk (own_read count (channel_at device desk held)).book
+got_pace device desk held count p = at held.way
+  where
+    at : (way : Way) → ChannelKeepsPace desk (own_read count (channel_at device desk (channel_named way held.slot))).book
+    at Play = play_slot device desk held.slot p
+    at Record = read_pace count desk.handed (record_at device desk held.slot) (record_slot device desk held.slot p)
+    at Map = map_slot device desk held.slot p
+
+closed_pace : (device : DeviceSeen) (desk : Desk) (held : Held) → ReliesOn device desk → KeepsPace desk → ChannelKeepsPace desk (own_close device (desk_here device desk) (channel_at device desk held))
+closed_pace device desk held r p = at held.way
+  where
+    at : (way : Way) → ChannelKeepsPace desk (own_close device (desk_here device desk) (channel_at device desk (channel_named way held.slot)))
+    at Play = let old : PlayBook = play_at device desk held.slot in
+        close_pace (play_rate_at device old) (desk_here device desk) desk.mixed old (near-rate device old.opening.settings r.device_is (r.rates held.slot)) (play_slot device desk held.slot p)
+    at Record = record { captured = omega arith; kept = omega arith }
+    at Map = record { given = omega arith }
 
 -- all members of a group start
 change_pace : {X : Type 0} (P : X → Type 0) (group : ℕ) (how : X → X) (slots : List ℕ) (books : List X) → 0 < group → ((slot : ℕ) (other : X) → slot < length books → P (how (get_or books slot other))) → All P books
@@ -379,20 +432,6 @@ start_pace device desk group some r p =
       mapped = p.mapped;
     }
 
-close_at : (device : DeviceSeen) (held : Option Held) (desk : Desk) (fd : ℕ) → ReliesOn device desk → KeepsPace desk → KeepsPace (close_on device held desk fd).desk
-close_at device held desk fd r p =
-    let here : Here = desk_here device desk in
-    by-turning KeepsPace (close_play device desk fd) (close_record device desk fd) (close_map device desk fd) held desk p
-    (λ slot. let old : PlayBook = play_at device desk slot in
-    let closed : Desk = with_play desk slot (closing device here old) in
-    others closed _ closed.groups (play_set desk slot (closing device here old) (close_pace (play_rate_at device old) here desk.mixed old (near-rate device old.opening.settings r.device_is (r.rates slot)) (play_slot device desk slot p)) p))
-    (λ slot. let book : RecordBook = records.closed (record_at device desk slot) in
-    let closed : Desk = with_record desk slot book in
-    others closed _ closed.groups (record_set desk slot book (record { captured = omega arith; kept = omega arith }) p))
-    (λ slot. let book : MapBook = map_closed (map_at device desk slot) in
-    let closed : Desk = with_map desk slot book in
-    others closed _ closed.groups (map_set desk slot book (record { given = omega arith }) p))
-
 interrupt_pace : (device : DeviceSeen) (desk : Desk) (n : ℕ) → 0 < n → ReliesOn device desk → KeepsPace desk → KeepsPace (interrupt_turn device desk n).desk
 interrupt_pace device desk n some r p =
     let frames : ℕ = mixed_by device desk.handed n in
@@ -416,32 +455,25 @@ abbrev pub HandsSome : Event → Type 0
 HandsSome (Intr n) = 0 < n
 HandsSome event = Unit {0}
 
+-- an event of a descriptor
+turned_pace : (device : DeviceSeen) (desk : Desk) (event : Event) (fd : ℕ) → KeepsPace desk → ((held : Held) → ChannelKeepsPace desk (own_turn device desk.handed (grouping_at device desk held) event (channel_at device desk held)).book)
+    → KeepsPace (channel_turn device desk event (held_by desk fd)).desk
+turned_pace device desk event fd p its = by-turning (λ (t : DeskTurn). KeepsPace t.desk) device desk event (held_by desk fd) (λ e. p)
+    (λ held e. let set = channel_set desk held.slot (own_turn device desk.handed (grouping_at device desk held) event (channel_at device desk held)).book (its held) p in
+    record { playing = set.playing; recording = set.recording; mapped = set.mapped })
+
 -- no book runs ahead, whatever event comes
 pub pace-after : (device : DeviceSeen) (desk : Desk) (event : Event) → HandsSome event → ReliesOn device desk → KeepsPace desk → KeepsPace (after device desk event).desk
 pace-after device desk (Open fd way settings) some r p =
-    by-opening (λ (w : Way) (d : Desk). KeepsPace d) way desk fd settings (λ w. p)
-    (λ slot found. let opened : Desk = with_play desk slot (play_begun settings) in others opened _ opened.groups (play_set desk slot (play_begun settings) (record { played = omega arith }) p))
-    (λ slot found. let opened : Desk = with_record desk slot (record_begun settings) in others opened _ opened.groups (record_set desk slot (record_begun settings) (record { captured = omega arith; kept = omega arith }) p))
-    (λ slot found. let opened : Desk = with_map desk slot (map_begun settings) in others opened _ opened.groups (map_set desk slot (map_begun settings) (record { given = omega arith }) p))
-pace-after device desk (Write fd source at count) some r p =
-    let here : Here = desk_here device desk in
-    by-turning KeepsPace (play_turn device (write_turn here count) desk) (λ slot. refusing desk Inval) (λ slot. refusing desk Inval) (held_by desk fd) desk p
-    (λ slot. play_set desk slot (write_turn here count (play_at device desk slot)).book (write_pace here desk.mixed count (play_at device desk slot) (play_slot device desk slot p)) p) (λ slot. p) (λ slot. p)
-pace-after device desk (Poke fd offset at count) some r p =
-    by-turning KeepsPace (λ slot. refusing desk Inval) (λ slot. refusing desk Inval) (map_turn device (poke_turn offset count) desk) (held_by desk fd) desk p (λ slot. p) (λ slot. p)
-    (λ slot. map_set desk slot (poke_turn offset count (map_at device desk slot)).book (poke_pace offset count desk.mixed (map_at device desk slot) (map_slot device desk slot p)) p)
-pace-after device desk (Read fd count) some r p =
-    by-turning KeepsPace (λ slot. refusing desk Inval) (record_turn device (records.read_turn count) desk) (λ slot. refusing desk Inval) (held_by desk fd) desk p (λ slot. p)
-    (λ slot. record_set desk slot (records.read_turn count (record_at device desk slot)).book (read_pace count desk.handed (record_at device desk slot) (record_slot device desk slot p)) p) (λ slot. p)
-pace-after device desk (Ioctl fd request) some r p =
-    by-asking device KeepsPace (held_by desk fd) desk request p (λ groups. ioctl_pace device (held_by desk fd) (record desk { groups = groups }) request (relies_others device desk groups r) (others desk desk.descriptors groups p))
-pace-after device desk (Join fd group) some r p =
-    by-joining device (λ (t : DeskTurn). KeepsPace t.desk) (held_by desk fd) desk group (λ errno. p)
-    (λ held number e resting. let asked : Desk = (ioctl_on device (Some held) desk (SetTrigger 0)).desk in others asked asked.descriptors _ (ioctl_pace device (Some held) desk (SetTrigger 0) r p))
+    by-opening (λ (t : DeskTurn). KeepsPace t.desk) desk fd way settings (λ held e. p) (λ shut. p)
+    (λ slot shut found. let set = channel_set desk slot (channel_begun way settings) (begun_pace desk way settings) p in record { playing = set.playing; recording = set.recording; mapped = set.mapped })
+pace-after device desk (Write fd source at count) some r p = turned_pace device desk (Write fd source at count) fd p (λ held. wrote_pace device desk held count p)
+pace-after device desk (Poke fd offset at count) some r p = turned_pace device desk (Poke fd offset at count) fd p (λ held. poked_pace device desk held offset count p)
+pace-after device desk (Read fd count) some r p = turned_pace device desk (Read fd count) fd p (λ held. got_pace device desk held count p)
+pace-after device desk (Ioctl fd request) some r p = turned_pace device desk (Ioctl fd request) fd p (λ held. requested_pace device desk held request (member_refusal (is_member desk held) request) r p)
+pace-after device desk (Join fd group) some r p = turned_pace device desk (Join fd group) fd p (λ held. joined_pace device desk held ((grouping_at device desk held).joins group) r p)
 pace-after device desk (StartGroup fd group) some r p =
     by-starting device (λ (t : DeskTurn). KeepsPace t.desk) (held_by desk fd) desk group (λ errno. p) (λ used ready. start_pace device desk group (used-some desk.groups group used) r p)
-pace-after device desk (Close fd) some r p =
-    let groups : Groups = leaving (held_by desk fd) desk.groups in
-    close_at device (held_by desk fd) (record desk { groups = groups }) fd (relies_others device desk groups r) (others desk desk.descriptors groups p)
+pace-after device desk (Close fd) some r p = turned_pace device desk (Close fd) fd p (λ held. closed_pace device desk held r p)
 pace-after device desk (Mixer request) some r p = record { playing = p.playing; recording = p.recording; mapped = p.mapped }
 pace-after device desk (Intr n) some r p = interrupt_pace device desk n some r p

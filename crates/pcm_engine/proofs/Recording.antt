@@ -26,9 +26,10 @@ use Rattle.pcm_desk.specs.declared.device.Held.{Held}
 use Rattle.pcm_desk.specs.declared.record_book.RecordBook.{RecordBook}
 use Rattle.pcm_desk.specs.Device.{DeviceSeen, IsDevice, device_settings, filters_of, seen}
 use Rattle.pcm_desk.specs.RecordBooks.{is_running, keeping, record_fill_of}
-use Rattle.pcm_desk.specs.Desk.{Desk, after, play_at, by_way, capturing, held_by, map_at, record_at, record_rate_at, record_unopened}
+use Rattle.pcm_desk.specs.Channels.{by_way, capturing, record_rate_at}
+use Rattle.pcm_desk.specs.Desk.{Desk, after, held_by, map_at, play_at, record_at, record_unopened}
 use Rattle.pcm_desk.specs.Events.{Fits, frames_taken}
-use Rattle.pcm_desk.specs.Own as own
+use Rattle.pcm_desk.specs.Channels as channels
 use Rattle.pcm_sound.specs.Given.{recorded_bytes}
 use Rattle.pcm_sound.specs.Recordings.{Recording, read_bytes, recording_after}
 use Rattle.pcm_sound.specs.StoryReplies.{bytes_got, bytes_to}
@@ -199,7 +200,7 @@ read_counted device pool handed count false book recording e v =
     let empty : min count (record_fill_of book) ≡ 0 = omega (arith, none.kept_none) in
     rw empty refl
 
--- the bytes that come with the reply to an event are those that the story tells
+-- the bytes that come with the reply to an event are those of the story
 pub answered-told : (device : DeviceSeen) (pool : Pool) (story : Story) (event : Event) → RecordingsAreValid device pool story → bytes_answered device story.desk (bytes_kept device story) event ≡ bytes_to device story event
 answered-told device pool story (Open fd way settings) v = refl
 answered-told device pool story (Write fd source at count) v = refl
@@ -207,7 +208,7 @@ answered-told device pool story (Poke fd offset at count) v = refl
 answered-told device pool story (Read fd count) v = held_at (held_by story.desk fd)
   where
     way_at : (way : Way) (slot : ℕ)
-        → channel_read count (by_way way (own.Playing (play_at device story.desk slot)) (own.Recording (record_at device story.desk slot)) (own.Mapped (map_at device story.desk slot))) (bytes_kept device story slot)
+        → channel_read count (by_way way (channels.Playing (play_at device story.desk slot)) (channels.Recording (record_at device story.desk slot)) (channels.Mapped (map_at device story.desk slot))) (bytes_kept device story slot)
         ≡ by_way way [] (read_bytes count (record_at device story.desk slot) (story.recordings slot)) []
     way_at Play slot = refl
     way_at Map slot = refl

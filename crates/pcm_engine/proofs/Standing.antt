@@ -15,14 +15,15 @@ use Rattle.pcm_desk.specs.declared.device.Device.{Device}
 use Rattle.pcm_desk.specs.declared.map_book.MapBook.{MapBook}
 use Rattle.pcm_desk.specs.declared.play_book.PlayBook.{PlayBook}
 use Rattle.pcm_desk.specs.Device.{DeviceSeen, device_frame_bytes, device_settings, filters_of, mix_settings, parent_plan, ring_frames, seen}
-use Rattle.pcm_desk.specs.Desk.{Desk, play_at, play_unopened, held_by, after, mixed_by}
+use Rattle.pcm_desk.specs.Channels.{mixed_by}
+use Rattle.pcm_desk.specs.Desk.{Desk, after, play_at, play_unopened}
 use Rattle.pcm_desk.specs.Events.{Fits, bytes_handed, frames_taken}
 use Rattle.pcm_sound.specs.Runs.{carrying, newest_bytes}
 use Rattle.pcm_sound.specs.Story.{Story, told}
 use Rattle.pcm_sound.specs.DeviceList.{device_bytes, device_body}
 use Rattle.pcm_sound.specs.Valid.{StoryIsValid}
 use Rattle.pcm_sound.proofs.Slots.{newest_bytes-marking, newest_bytes-playing}
-use Rattle.pcm_sound.proofs.Stories.{keeps, valid-told, writes-write_on}
+use Rattle.pcm_sound.proofs.Stories.{keeps, valid-told, writes-some}
 use Rattle.pcm_sound.proofs.DeviceLists.{length-device_bytes, device_body-bytes, device_bytes-same, device_bytes-interrupt, new_block}
 use Rattle.pcm_play.specs.declared.channel.PlayChannelOf.{PlayChannelOf}
 use Rattle.pcm_map.specs.declared.channel.MapChannelOf.{MapChannelOf}
@@ -47,7 +48,7 @@ pub play_at-books : {B : Type 0} (device : DeviceSeen) (desk : Desk) (channels :
 play_at-books {B = B} device desk channels slot other play there =
     ap (λ (books : List PlayBook). get_or books slot (play_unopened device)) play ∙ get_or-map (λ (c : PlayChannelOf B). c.book) channels slot other (play_unopened device) there
 
--- the channels of a device, the chain between its mix and what is handed over, and its ring
+-- the channels of a device, the chain between its mix and its ring, and the ring
 pub record Parts (B : Type 0) : Type 0 where
   pub channels : List (PlayChannelOf B)
   pub maps : List (MapChannelOf B)
@@ -106,7 +107,7 @@ counts_told device pool story (Open fd way settings) slot fits v more = record {
       ∙ counted-kept (play_at device story.desk slot) (play_at device (told device pool story (Open fd way settings)).desk slot).written (newest_bytes (story.runs slot)) (omega arith);
 }
 counts_told device pool story (Write fd source at count) slot fits v more =
-    let w = (writes-write_on device (held_by story.desk fd) story.desk count).slots slot in
+    let w = writes-some device story.desk fd source at count slot in
     record {
       are = marks device pool story (Write fd source at count) slot
           ∙ counted-written device story.desk.mixed pool source at count w.accepted (play_at device story.desk slot) (play_at device (told device pool story (Write fd source at count)).desk slot).written (story.runs slot)
@@ -297,7 +298,7 @@ body_kept device pool story event ring fits none v =
     ∙ sym (append-nil (device_body device story))
     ∙ ap (λ n. device_body device story ++ take n ring) (sym no_bytes)
 
--- what an event hands over is the front of the device's ring
+-- what an event gives to the device is the front of the device's ring
 pub body-told : {B : Type 0} (kept : B → Kept) (device : DeviceSeen) (pool : Pool) (story : Story) (event : Event) (desk : Desk) (parts : Parts B) → Fits device pool event → StandsFor kept device desk parts story
     → device_body device (told device pool story event) ≡ device_body device story ++ take (bytes_handed device event) parts.ring
 body-told kept device pool story (Open fd way settings) desk parts fits s = body_kept device pool story (Open fd way settings) parts.ring fits refl s.valid

@@ -10,8 +10,8 @@ use Rattle.pcm_feeder.specs.Kept.{Kept}
 use Rattle.pcm_desk.specs.declared.device.Device.{Device}
 use Rattle.pcm_desk.specs.Device.{DeviceSeen, IsInLimits, seen}
 use Rattle.pcm_desk.specs.Desk.{Desk, after, held_by}
-use Rattle.pcm_desk.specs.Events.{bytes_handed}
 use Rattle.pcm_desk.specs.Own.{IsIsolated, MembersWait}
+use Rattle.pcm_desk.specs.Events.{bytes_handed}
 use Rattle.pcm_desk.proofs.Isolation.{isolated}
 use Rattle.pcm_desk.proofs.Members.{waits-after}
 use Rattle.pcm_desk.proofs.Turning.{handed-taken}
@@ -62,27 +62,29 @@ stepped-applied kind kept event bytes samples old new told handed size room fill
     let same : device_of new ≡ device = ap (λ (d : Device). seen new.tables d) a.device ∙ ap (λ (t : Filters). seen t old.parent.device) a.tables in
     let ready = ready-applied kind kept event bytes samples old new told handed a within was_ready bus same in
     record {
-      device = same;
-      handed = ap (λ (desk : Desk). desk.handed) a.desk ∙ handed-taken device desk event;
+      rules = record {
+        device = same;
+        handed = ap (λ (desk : Desk). desk.handed) a.desk ∙ handed-taken device desk event;
+        desk = a.desk;
+        result = a.result;
+        refused = refused;
+        isolated =
+            subst (λ (left : Desk). IsIsolated device event desk left told.result) (sym a.desk)
+            (subst (λ (answer : Result Answer Errno). IsIsolated device event desk (after device desk event).desk answer) (sym a.result) (isolated device event desk old.apart));
+        read = a.answered;
+        taken = λ fd count is.
+            read-waiting kind kept old.tables device desk (record_channels old.parent) count (held_by desk fd) told.bytes refl was_ready.recording
+            (λ held e. old.apart.within fd held e)
+            (λ bytes frames stand. a.answered bytes frames stand ∙ ap (λ (event : Event). bytes_answered device desk bytes event) is);
+      };
       ready = ready;
-      desk = a.desk;
-      result = a.result;
       safe = ready.books;
       records_safe = ready.records;
       maps_safe = ready.maps;
       places = ready.places;
       rings = ready.rings;
-      refused = refused;
       apart = new.apart;
       members = ready.members;
-      isolated =
-          subst (λ (left : Desk). IsIsolated device event desk left told.result) (sym a.desk)
-          (subst (λ (answer : Result Answer Errno). IsIsolated device event desk (after device desk event).desk answer) (sym a.result) (isolated device event desk old.apart));
-      read = a.answered;
-      taken = λ fd count is.
-          read-waiting kind kept old.tables device desk (record_channels old.parent) count (held_by desk fd) told.bytes refl was_ready.recording
-          (λ held e. old.apart.within fd held e)
-          (λ bytes frames stand. a.answered bytes frames stand ∙ ap (λ (event : Event). bytes_answered device desk bytes event) is);
       count = count;
       rest = rest;
     }

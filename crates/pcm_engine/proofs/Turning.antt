@@ -1,6 +1,6 @@
 -- What becomes of a desk whose parent lent one channel.
-use Rattle.std.proofs.Common.{Ok, Err, ◌≡◌, ◌+◌, ◌-◌, ℕ, ◌<◌, ◌≤◌, false, cond, eqb, List, length, set, get_or, min, take, drop, Option, Some, None, Result, refl, sym, ap, ◌∙◌, subst, arith}
-use Rattle.std.specs.Prelude.{IsOk, is_some}
+use Rattle.std.proofs.Common.{Ok, Err, ◌≡◌, ◌+◌, ◌-◌, ℕ, ◌<◌, ◌≤◌, false, cond, eqb, List, length, set, get_or, min, take, drop, Option, Some, None, Result, refl, sym, ap, ◌∙◌, subst, arith, Bool, true}
+use Rattle.std.specs.Prelude.{IsOk, is_some, not}
 use Rattle.std.proofs.lemmas.List.{length-map}
 use Rattle.pcm_oss.specs.declared.event.Way.{Way}
 use Rattle.pcm_oss.specs.declared.event.TheConstants.{SLOTS}
@@ -18,11 +18,11 @@ use Rattle.pcm_desk.specs.declared.record_book.RecordBook.{RecordBook}
 use Rattle.pcm_desk.specs.Device.{DeviceSeen}
 use Rattle.pcm_desk.specs.declared.turn.Turn.{Turn}
 use Rattle.pcm_desk.specs.declared.map_book.MapBook.{MapBook}
-use Rattle.pcm_desk.specs.MapBooks.{is_map_free, map_begun, map_closed}
-use Rattle.pcm_desk.specs.PlayBooks.{play_begun}
-use Rattle.pcm_desk.specs.RecordBooks.{closed, record_begun, record_fill_of}
-use Rattle.pcm_desk.specs.Desk.{Desk, DeskTurn, play_at, by_way, close_map, close_on, close_play, close_record, closing, desk_here, held_by, least_free_map, least_free_play, least_free_record, map_at, map_turn, map_unopened, open_map, open_play, open_record, open_turn, play_turn, record_at, record_turn, record_unopened, refusing, slot_number, turning, play_unopened, with_map, with_play, with_descriptor, with_record}
-use Rattle.pcm_desk.specs.Own.{HoldApart, Mapped, MayBeHeld, Playing, Recording, slots_of}
+use Rattle.pcm_desk.specs.MapBooks.{is_map_free}
+use Rattle.pcm_desk.specs.RecordBooks.{record_fill_of}
+use Rattle.pcm_desk.specs.Channels.{Mapped, Playing, Recording, by_way, may_be_held}
+use Rattle.pcm_desk.specs.Desk.{Desk, DeskTurn, held_by, map_at, map_unopened, open_turn, play_at, play_unopened, record_at, record_unopened, refusing, slot_number, with_descriptor, after, channel_at, channel_turn, least_free, leaving, open_at, opened_at, with_channel_at}
+use Rattle.pcm_desk.specs.Own.{HoldApart, slots_of}
 use Rattle.pcm_sound.specs.Areas.{holds_map}
 use Rattle.pcm_play.specs.declared.channel.PlayChannelOf.{PlayChannelOf}
 use Rattle.pcm_record.specs.declared.channel.RecordChannelOf.{RecordChannelOf}
@@ -36,16 +36,24 @@ use Rattle.pcm_bus.proofs.Channels.{map_at-channel, play_at-channel}
 use Rattle.pcm_vchan.proofs.Channels.{map_books_of-set, play_books_of-set, record_at-channel, record_books_of-set}
 use Rattle.pcm_engine.specs.declared.descriptors.Descriptors.{Descriptors}
 use Rattle.pcm_engine.specs.Descriptors.{holding, is_way, shut, slot_of}
-use Rattle.pcm_engine.specs.Desks.{desk_with}
+use Rattle.pcm_engine.specs.Desks.{desk_with, channel_asked, closed_held}
 use Rattle.pcm_engine.specs.Steps.{bytes_read, channel_read}
+use Rattle.pcm_desk.proofs.Channels.{put-again}
+use Rattle.pcm_oss.specs.declared.event.Event.{Event}
+use Rattle.pcm_oss.specs.declared.event.Event.TheVariants.{Close, Poke, Read, Write}
+use Rattle.pcm_oss.specs.declared.request.Request.{Request}
+use Rattle.pcm_wave.specs.declared.pool.Source.{Source}
+use Rattle.pcm_wave.specs.declared.pool.Source.TheVariants.{Inline}
 
 -- ---- where a descriptor's channel is
 
--- an event of a descriptor that holds a channel of some way
-pub turning-held : (way : Way) (play recording mapped : ℕ → DeskTurn) (found : Option Held) (held : Held) (desk : Desk) → found ≡ Some held → held.way ≡ way
-    → turning play recording mapped found desk ≡ by_way way (play held.slot) (recording held.slot) (mapped held.slot)
-turning-held way play recording mapped found held desk e is =
-    ap (λ (h : Option Held). turning play recording mapped h desk) e ∙ ap (λ (w : Way). by_way w (play held.slot) (recording held.slot) (mapped held.slot)) is
+-- a channel of this way and slot
+abbrev pub channel_of : Way → ℕ → Held
+channel_of way slot = record { way = way; slot = slot }
+
+-- what a descriptor holds, of a way that is known
+pub found-way : (way : Way) (found : Option Held) (held : Held) → found ≡ Some held → held.way ≡ way → found ≡ Some (channel_of way held.slot)
+found-way way found held e is = e ∙ ap (λ (w : Way). Some (channel_of w held.slot)) is
 
 -- what a descriptor is refused for, and what it holds where it isn't
 pub holding-is : (found : Option Held) (held : Held) → holding found ≡ Ok held → found ≡ Some held
@@ -56,17 +64,17 @@ holding-is (Some h) held e = let same : Ok h ≡ Ok held = e in ap (λ (r : Resu
     some_of (Ok x) = Some x
     some_of (Err errno) = None
 
-pub holding-not : (play recording mapped : ℕ → DeskTurn) (found : Option Held) (desk : Desk) (errno : Errno) → holding found ≡ Err errno → turning play recording mapped found desk ≡ refusing desk errno
-holding-not play recording mapped None desk errno e = ap (λ (r : Result Held Errno). refusing desk (errno_of r)) e
-  where
-    errno_of : Result Held Errno → Errno
-    errno_of (Ok x) = BadF
-    errno_of (Err why) = why
-holding-not play recording mapped (Some held) desk errno e = cc
+abbrev errno_in : {X : Type 0} → Result X Errno → Errno
+errno_in (Ok x) = BadF
+errno_in (Err errno) = errno
 
--- a channel of this way and slot
-abbrev pub channel_of : Way → ℕ → Held
-channel_of way slot = record { way = way; slot = slot }
+pub holding-not : (device : DeviceSeen) (desk : Desk) (event : Event) (found : Option Held) (errno : Errno) → holding found ≡ Err errno → channel_turn device desk event found ≡ refusing desk errno
+holding-not device desk event None errno e = ap (λ (r : Result Held Errno). refusing desk (errno_in r)) e
+holding-not device desk event (Some held) errno e = cc
+
+pub ask-not : (device : DeviceSeen) (desk : Desk) (request : Request) (found : Option Held) (errno : Errno) → holding found ≡ Err errno → channel_asked device desk request found ≡ refusing desk errno
+ask-not device desk request None errno e = ap (λ (r : Result Held Errno). refusing desk (errno_in r)) e
+ask-not device desk request (Some held) errno e = cc
 
 abbrev slot_in : Result ℕ Errno → ℕ
 slot_in (Ok slot) = slot
@@ -86,6 +94,62 @@ slot_way Map Map at slot e = ap (channel_of Map) (ap slot_in e)
 pub slot-is : (way : Way) (found : Option Held) (slot : ℕ) → slot_of way found ≡ Ok slot → found ≡ Some (channel_of way slot)
 slot-is way None slot e = cc
 slot-is way (Some held) slot e = ap (λ (h : Held). Some h) (slot_way way held.way held.slot slot e)
+
+-- ---- an event that channels of one way take, and no other
+
+-- a channel that refuses it stays as it was
+refuses : (device : DeviceSeen) (desk : Desk) (held : Held) → record { desk = with_channel_at desk held.slot (channel_at device desk held); reply = Err Inval } ≡ refusing desk Inval
+refuses device desk held = ap (λ (d : Desk). refusing d Inval) (put-again device desk held)
+
+refused_by : (device : DeviceSeen) (desk : Desk) (event : Event) (way : Way) (found : Option Held) (errno : Errno) → ((held : Held) → is_way way held.way ≡ false → channel_turn device desk event (Some held) ≡ refusing desk Inval)
+    → slot_of way found ≡ Err errno → channel_turn device desk event found ≡ refusing desk errno
+refused_by device desk event way None errno others e = ap (λ (r : Result ℕ Errno). refusing desk (errno_in r)) e
+refused_by device desk event way (Some held) errno others e = at (is_way way held.way) refl e
+  where
+    at : (b : Bool) → is_way way held.way ≡ b → cond b (Ok held.slot) (Err Inval) ≡ Err errno → channel_turn device desk event (Some held) ≡ refusing desk errno
+    at true is e = cc
+    at false is e = others held is ∙ ap (λ (r : Result ℕ Errno). refusing desk (errno_in r)) e
+
+pub write-refused : (device : DeviceSeen) (desk : Desk) (fd : ℕ) (source : Source) (at count : ℕ) (found : Option Held) (errno : Errno) → slot_of Play found ≡ Err errno → channel_turn device desk (Write fd source at count) found ≡ refusing desk errno
+write-refused device desk fd source at count found errno = refused_by device desk (Write fd source at count) Play found errno (λ held. other held.way held.slot)
+  where
+    other : (way : Way) (slot : ℕ) → is_way Play way ≡ false → channel_turn device desk (Write fd source at count) (Some (channel_of way slot)) ≡ refusing desk Inval
+    other Play slot is = cc
+    other Record slot is = refuses device desk (channel_of Record slot)
+    other Map slot is = refuses device desk (channel_of Map slot)
+
+pub poke-refused : (device : DeviceSeen) (desk : Desk) (fd offset at count : ℕ) (found : Option Held) (errno : Errno) → slot_of Map found ≡ Err errno → channel_turn device desk (Poke fd offset at count) found ≡ refusing desk errno
+poke-refused device desk fd offset at count found errno = refused_by device desk (Poke fd offset at count) Map found errno (λ held. other held.way held.slot)
+  where
+    other : (way : Way) (slot : ℕ) → is_way Map way ≡ false → channel_turn device desk (Poke fd offset at count) (Some (channel_of way slot)) ≡ refusing desk Inval
+    other Play slot is = refuses device desk (channel_of Play slot)
+    other Record slot is = refuses device desk (channel_of Record slot)
+    other Map slot is = cc
+
+pub read-refused : (device : DeviceSeen) (desk : Desk) (fd count : ℕ) (found : Option Held) (errno : Errno) → slot_of Record found ≡ Err errno → channel_turn device desk (Read fd count) found ≡ refusing desk errno
+read-refused device desk fd count found errno = refused_by device desk (Read fd count) Record found errno (λ held. other held.way held.slot)
+  where
+    other : (way : Way) (slot : ℕ) → is_way Record way ≡ false → channel_turn device desk (Read fd count) (Some (channel_of way slot)) ≡ refusing desk Inval
+    other Play slot is = refuses device desk (channel_of Play slot)
+    other Record slot is = cc
+    other Map slot is = refuses device desk (channel_of Map slot)
+
+-- of the bytes of a write and a poke only their number counts
+pub write-counts : (device : DeviceSeen) (desk : Desk) (fd : ℕ) (source : Source) (at count : ℕ) → after device desk (Write fd Inline 0 count) ≡ after device desk (Write fd source at count)
+write-counts device desk fd source at count = by (held_by desk fd)
+  where
+    by : (found : Option Held) → channel_turn device desk (Write fd Inline 0 count) found ≡ channel_turn device desk (Write fd source at count) found
+    by None = refl
+    by (Some held) = refl
+
+pub poke-counts : (device : DeviceSeen) (desk : Desk) (fd offset at count : ℕ) → after device desk (Poke fd offset 0 count) ≡ after device desk (Poke fd offset at count)
+poke-counts device desk fd offset at count = by (held_by desk fd)
+  where
+    by : (found : Option Held) → channel_turn device desk (Poke fd offset 0 count) found ≡ channel_turn device desk (Poke fd offset at count) found
+    by None = refl
+    by (Some held) = refl
+
+-- ---- the slots of a parent
 
 slot_there : {B : Type 0} (way : Way) (parent : ParentOf B) (descriptors : Descriptors) (fd : ℕ) (held : Held) → HoldApart (desk_with parent descriptors) → held_by (desk_with parent descriptors) fd ≡ Some held → held.way ≡ way
     → held.slot < slots_of (desk_with parent descriptors) way
@@ -132,7 +196,7 @@ books-lent how parent slot lent new other there is changed = play_books_of-set h
 -- the desk, where the book of the channel was turned
 pub desk-played : {B : Type 0} (device : DeviceSeen) (turn : PlayBook → Turn PlayBook) (parent : ParentOf B) (descriptors : Descriptors) (slot : ℕ) (lent new : PlayChannelOf B)
     → slot < length (play_channels parent) → lent ≡ get_or (play_channels parent) slot lent → new.book ≡ (turn lent.book).book
-    → desk_with (with_channel parent slot new) descriptors ≡ (play_turn device turn (desk_with parent descriptors) slot).desk
+    → desk_with (with_channel parent slot new) descriptors ≡ with_channel_at (desk_with parent descriptors) slot (Playing (turn (play_at device (desk_with parent descriptors) slot)).book)
 desk-played device turn parent descriptors slot lent new there is changed =
     ap (λ (play : List PlayBook). record { play = play; recording = record_books parent; mapped = map_books parent; descriptors = descriptors.held.value; groups = descriptors.groups; mixer = parent.mixer; handed = parent.handed; mixed = parent.mixed })
     (books-lent (λ (book : PlayBook). (turn book).book) parent slot lent new (play_unopened device) there is changed)
@@ -140,7 +204,7 @@ desk-played device turn parent descriptors slot lent new there is changed =
 -- and the reply
 pub reply-played : {B : Type 0} (device : DeviceSeen) (turn : PlayBook → Turn PlayBook) (parent : ParentOf B) (descriptors : Descriptors) (slot : ℕ) (lent : PlayChannelOf B) (answer : Result Answer Errno)
     → slot < length (play_channels parent) → lent ≡ get_or (play_channels parent) slot lent → answer ≡ (turn lent.book).reply
-    → answer ≡ (play_turn device turn (desk_with parent descriptors) slot).reply
+    → answer ≡ (turn (play_at device (desk_with parent descriptors) slot)).reply
 reply-played device turn parent descriptors slot lent answer there is answered =
     answered ∙ ap (λ (book : PlayBook). (turn book).reply) (play_at-channel (play_channels parent) slot lent (play_unopened device) there is)
 
@@ -151,14 +215,14 @@ own-lent_record {B = B} device channels slot lent there is own = ap (λ (channel
 
 pub desk-recorded : {B : Type 0} (device : DeviceSeen) (turn : RecordBook → Turn RecordBook) (parent : ParentOf B) (descriptors : Descriptors) (slot : ℕ) (lent new : RecordChannelOf B)
     → slot < length (record_channels parent) → lent ≡ get_or (record_channels parent) slot lent → new.book ≡ (turn lent.book).book
-    → desk_with (with_recorder parent slot new) descriptors ≡ (record_turn device turn (desk_with parent descriptors) slot).desk
+    → desk_with (with_recorder parent slot new) descriptors ≡ with_channel_at (desk_with parent descriptors) slot (Recording (turn (record_at device (desk_with parent descriptors) slot)).book)
 desk-recorded device turn parent descriptors slot lent new there is changed =
     ap (λ (recording : List RecordBook). record { play = play_books parent; recording = recording; mapped = map_books parent; descriptors = descriptors.held.value; groups = descriptors.groups; mixer = parent.mixer; handed = parent.handed; mixed = parent.mixed })
     (record_books_of-set (λ (book : RecordBook). (turn book).book) (record_channels parent) slot lent new (record_unopened device) there is changed)
 
 pub reply-recorded : {B : Type 0} (device : DeviceSeen) (turn : RecordBook → Turn RecordBook) (parent : ParentOf B) (descriptors : Descriptors) (slot : ℕ) (lent : RecordChannelOf B) (answer : Result Answer Errno)
     → slot < length (record_channels parent) → lent ≡ get_or (record_channels parent) slot lent → answer ≡ (turn lent.book).reply
-    → answer ≡ (record_turn device turn (desk_with parent descriptors) slot).reply
+    → answer ≡ (turn (record_at device (desk_with parent descriptors) slot)).reply
 reply-recorded device turn parent descriptors slot lent answer there is answered =
     answered ∙ ap (λ (book : RecordBook). (turn book).reply) (record_at-channel (record_channels parent) slot lent (record_unopened device) there is)
 
@@ -169,23 +233,28 @@ own-lent_map {B = B} device channels slot lent there is own = ap (λ (channel : 
 
 pub desk-mapped : {B : Type 0} (device : DeviceSeen) (turn : MapBook → Turn MapBook) (parent : ParentOf B) (descriptors : Descriptors) (slot : ℕ) (lent new : MapChannelOf B)
     → slot < length (map_channels parent) → lent ≡ get_or (map_channels parent) slot lent → new.book ≡ (turn lent.book).book
-    → desk_with (with_map_channel parent slot new) descriptors ≡ (map_turn device turn (desk_with parent descriptors) slot).desk
+    → desk_with (with_map_channel parent slot new) descriptors ≡ with_channel_at (desk_with parent descriptors) slot (Mapped (turn (map_at device (desk_with parent descriptors) slot)).book)
 desk-mapped device turn parent descriptors slot lent new there is changed =
     ap (λ (mapped : List MapBook). record { play = play_books parent; recording = record_books parent; mapped = mapped; descriptors = descriptors.held.value; groups = descriptors.groups; mixer = parent.mixer; handed = parent.handed; mixed = parent.mixed })
     (map_books_of-set (λ (book : MapBook). (turn book).book) (map_channels parent) slot lent new (map_unopened device) there is changed)
 
 pub reply-mapped : {B : Type 0} (device : DeviceSeen) (turn : MapBook → Turn MapBook) (parent : ParentOf B) (descriptors : Descriptors) (slot : ℕ) (lent : MapChannelOf B) (answer : Result Answer Errno)
     → slot < length (map_channels parent) → lent ≡ get_or (map_channels parent) slot lent → answer ≡ (turn lent.book).reply
-    → answer ≡ (map_turn device turn (desk_with parent descriptors) slot).reply
+    → answer ≡ (turn (map_at device (desk_with parent descriptors) slot)).reply
 reply-mapped device turn parent descriptors slot lent answer there is answered =
     answered ∙ ap (λ (book : MapBook). (turn book).reply) (map_at-channel (map_channels parent) slot lent (map_unopened device) there is)
 
 -- one that a descriptor holds isn't free
-pub map-unfree : {B : Type 0} (parent : ParentOf B) (descriptors : Descriptors) (fd : ℕ) (held : Held) (lent : MapChannelOf B) → HoldApart (desk_with parent descriptors) → held_by (desk_with parent descriptors) fd ≡ Some held → held.way ≡ Map
+pub map-unfree : {B : Type 0} (device : DeviceSeen) (parent : ParentOf B) (descriptors : Descriptors) (fd : ℕ) (held : Held) (lent : MapChannelOf B) → HoldApart (desk_with parent descriptors) → held_by (desk_with parent descriptors) fd ≡ Some held → held.way ≡ Map
     → held.slot < length (map_channels parent) → lent ≡ get_or (map_channels parent) held.slot lent → is_map_free lent.book.state ≡ false
-map-unfree parent descriptors fd held lent h e is there lent_is =
-    let taken = subst (λ (w : Way). MayBeHeld (desk_with parent descriptors) w held.slot) is (h.taken fd held e) in
-    ap (λ (b : MapBook). is_map_free b.state) (map_at-channel (map_channels parent) held.slot lent lent.book there lent_is) ∙ taken lent.book
+map-unfree device parent descriptors fd held lent h e is there lent_is =
+    let desk : Desk = desk_with parent descriptors in
+    ap (λ (b : MapBook). is_map_free b.state) (map_at-channel (map_channels parent) held.slot lent (map_unopened device) there lent_is)
+    ∙ not-true (is_map_free (map_at device desk held.slot).state) (ap (λ (w : Way). may_be_held (channel_at device desk (channel_of w held.slot))) (sym is) ∙ h.taken fd held device e)
+  where
+    not-true : (b : Bool) → not b ≡ true → b ≡ false
+    not-true true e = cc
+    not-true false e = refl
 
 -- a descriptor that is refused as it holds none
 unmapped_way : (way : Way) (at slot : ℕ) (errno : Errno) → cond (is_way Map way) (Ok at) (Err Inval) ≡ Err errno → by_way way false false (eqb at slot) ≡ false
@@ -204,7 +273,7 @@ pub shut-none : (found : Option Held) → IsOk (shut found) → found ≡ None
 shut-none None ok = refl
 shut-none (Some held) ok = cc
 
--- the slot that is taken is the least free one, and what is told is its number
+-- the slot that is taken is the least free one, and the reply has its number
 pub slot-found : (way : Way) (slots : ℕ) (least : Option ℕ) (told : ℕ) → slot_or_busy (slot_number slots way) least ≡ Ok told
     → (least ≡ Some (slot_place slots way told)) × (slot_number slots way (slot_place slots way told) ≡ told)
 slot-found way slots None told e = cc
@@ -215,7 +284,7 @@ slot-found Map slots (Some place) told e =
     let back : place ≡ told - slots = omega arith in
     (ap Some back, omega (arith, same))
 
--- it is told behind those that play, where it is mapped
+-- it is numbered after those that play, where it is mapped
 pub told-behind : (way : Way) (slots : ℕ) (least : Option ℕ) (told : ℕ) → slot_or_busy (slot_number slots way) least ≡ Ok told → way ≡ Map → slots ≤ told
 told-behind way slots None told e is = cc
 told-behind Play slots (Some place) told e is = cc
@@ -223,36 +292,16 @@ told-behind Record slots (Some place) told e is = cc
 told-behind Map slots (Some place) told e is = let same : slots + place ≡ told = ap slot_in e in omega arith
 
 -- what an open makes of a desk
-pub opened-desk : (way : Way) (desk : Desk) (fd : ℕ) (settings : Settings) (slot : ℕ) → held_by desk fd ≡ None
-    → by_way way (least_free_play desk.play) (least_free_record desk.recording) (least_free_map desk.mapped) ≡ Some slot
-    → with_descriptor (by_way way (with_play desk slot (play_begun settings)) (with_record desk slot (record_begun settings)) (with_map desk slot (map_begun settings))) fd (Some (record { way = way; slot = slot }))
-    ≡ (open_turn desk fd way settings).desk
-opened-desk way desk fd settings slot none least =
-    at way least ∙ sym (ap (λ (found : Option Held). (cond {A = DeskTurn} (is_some found) (refusing desk Exist) (by_way way (open_play (least_free_play desk.play) desk fd settings) (open_record (least_free_record desk.recording) desk fd settings) (open_map (least_free_map desk.mapped) desk fd settings))).desk) none)
-  where
-    at : (w : Way) → by_way w (least_free_play desk.play) (least_free_record desk.recording) (least_free_map desk.mapped) ≡ Some slot
-        → with_descriptor (by_way w (with_play desk slot (play_begun settings)) (with_record desk slot (record_begun settings)) (with_map desk slot (map_begun settings))) fd (Some (record { way = w; slot = slot }))
-        ≡ (by_way w (open_play (least_free_play desk.play) desk fd settings) (open_record (least_free_record desk.recording) desk fd settings) (open_map (least_free_map desk.mapped) desk fd settings)).desk
-    at Play e = sym (ap (λ (found : Option ℕ). (open_play found desk fd settings).desk) e)
-    at Record e = sym (ap (λ (found : Option ℕ). (open_record found desk fd settings).desk) e)
-    at Map e = sym (ap (λ (found : Option ℕ). (open_map found desk fd settings).desk) e)
+open_found : (way : Way) (desk : Desk) (fd : ℕ) (settings : Settings) (slot : ℕ) → held_by desk fd ≡ None → least_free desk way ≡ Some slot → open_at desk fd way settings (Some slot) ≡ open_turn desk fd way settings
+open_found way desk fd settings slot none least =
+    sym (ap (λ (found : Option Held). cond {A = DeskTurn} (is_some found) (refusing desk Exist) (open_at desk fd way settings (least_free desk way))) none ∙ ap (open_at desk fd way settings) least)
 
--- its number is told
-pub opened-number : (way : Way) (desk : Desk) (fd : ℕ) (settings : Settings) (slots slot : ℕ) → held_by desk fd ≡ None → slots ≡ length desk.play
-    → by_way way (least_free_play desk.play) (least_free_record desk.recording) (least_free_map desk.mapped) ≡ Some slot
-    → Ok (Number (slot_number slots way slot)) ≡ (open_turn desk fd way settings).reply
-opened-number way desk fd settings slots slot none count least =
-    at way least ∙ sym (ap (λ (found : Option Held). (cond {A = DeskTurn} (is_some found) (refusing desk Exist) opened).reply) none)
-  where
-    opened : DeskTurn
-    opened = by_way way (open_play (least_free_play desk.play) desk fd settings) (open_record (least_free_record desk.recording) desk fd settings) (open_map (least_free_map desk.mapped) desk fd settings)
+pub opened-desk : (way : Way) (desk : Desk) (fd : ℕ) (settings : Settings) (slot : ℕ) → held_by desk fd ≡ None → least_free desk way ≡ Some slot → opened_at desk fd (channel_of way slot) settings ≡ (open_turn desk fd way settings).desk
+opened-desk way desk fd settings slot none least = ap (λ (t : DeskTurn). t.desk) (open_found way desk fd settings slot none least)
 
-    at : (w : Way) → by_way w (least_free_play desk.play) (least_free_record desk.recording) (least_free_map desk.mapped) ≡ Some slot
-        → Ok (Number (slot_number slots w slot))
-        ≡ (by_way w (open_play (least_free_play desk.play) desk fd settings) (open_record (least_free_record desk.recording) desk fd settings) (open_map (least_free_map desk.mapped) desk fd settings)).reply
-    at Play e = sym (ap (λ (found : Option ℕ). (open_play found desk fd settings).reply) e)
-    at Record e = sym (ap (λ (found : Option ℕ). (open_record found desk fd settings).reply) e)
-    at Map e = ap (λ n. Ok (Number (n + slot))) count ∙ sym (ap (λ (found : Option ℕ). (open_map found desk fd settings).reply) e)
+-- and its number is in the reply
+pub opened-number : (way : Way) (desk : Desk) (fd : ℕ) (settings : Settings) (slots slot : ℕ) → held_by desk fd ≡ None → slots ≡ length desk.play → least_free desk way ≡ Some slot → Ok (Number (slot_number slots way slot)) ≡ (open_turn desk fd way settings).reply
+opened-number way desk fd settings slots slot none count least = ap (λ (n : ℕ). Ok (Number (slot_number n way slot))) count ∙ ap (λ (t : DeskTurn). t.reply) (open_found way desk fd settings slot none least)
 
 -- what a read gets of a descriptor that holds a channel which records
 pub bytes_read-held : (device : DeviceSeen) (desk : Desk) (bytes : ℕ → List ℕ) (count : ℕ) (found : Option Held) (held : Held) (book : RecordBook) → found ≡ Some held → held.way ≡ Record → book ≡ record_at device desk held.slot
@@ -268,17 +317,7 @@ either-way Play play recording mapped = play refl
 either-way Record play recording mapped = recording refl
 either-way Map play recording mapped = mapped refl
 
--- a close of a channel of whichever way, which shuts its descriptor
-pub closes-held : (device : DeviceSeen) (desk : Desk) (fd : ℕ) (found : Option Held) (held : Held) → found ≡ Some held
-    → with_descriptor (by_way held.way (with_play desk held.slot (closing device (desk_here device desk) (play_at device desk held.slot))) (with_record desk held.slot (closed (record_at device desk held.slot)))
-    (with_map desk held.slot (map_closed (map_at device desk held.slot)))) fd None
-    ≡ (close_on device found desk fd).desk
-closes-held device desk fd found held e = at held.way ∙ sym (ap (λ (h : Option Held). (close_on device h desk fd).desk) e)
-  where
-    at : (way : Way)
-        → with_descriptor (by_way way (with_play desk held.slot (closing device (desk_here device desk) (play_at device desk held.slot))) (with_record desk held.slot (closed (record_at device desk held.slot)))
-        (with_map desk held.slot (map_closed (map_at device desk held.slot)))) fd None
-        ≡ (by_way way (close_play device desk fd held.slot) (close_record device desk fd held.slot) (close_map device desk fd held.slot)).desk
-    at Play = refl
-    at Record = refl
-    at Map = refl
+-- a close of a channel, which leaves its group first, and then its descriptor
+pub closes-held : (device : DeviceSeen) (desk : Desk) (fd : ℕ) (held : Held) → held_by desk fd ≡ Some held
+    → with_descriptor (closed_held device (record desk { groups = leaving held desk.groups }) held) fd None ≡ (after device desk (Close fd)).desk
+closes-held device desk fd held e = sym (ap (λ (found : Option Held). (channel_turn device desk (Close fd) found).desk) e)

@@ -13,8 +13,9 @@ use Rattle.pcm_desk.specs.declared.device.Held.{Held}
 use Rattle.pcm_desk.specs.declared.record_book.RecordBook.{RecordBook}
 use Rattle.pcm_desk.specs.Device.{DeviceSeen}
 use Rattle.pcm_desk.specs.RecordBooks.{record_fill_of}
-use Rattle.pcm_desk.specs.Desk.{Desk, by_way}
-use Rattle.pcm_desk.specs.Own.{channel_at, slots_of}
+use Rattle.pcm_desk.specs.Channels.{by_way}
+use Rattle.pcm_desk.specs.Desk.{Desk, channel_at}
+use Rattle.pcm_desk.specs.Own.{slots_of}
 use Rattle.pcm_record.specs.declared.channel.RecordChannelOf.{RecordChannelOf}
 use Rattle.pcm_record.specs.Channels.{IsRecordReady, RecordStands}
 use Rattle.pcm_vchan.specs.Slots.{AllRecordStand, record_books_of}

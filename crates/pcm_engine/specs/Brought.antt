@@ -1,4 +1,4 @@
--- What an event brings: bytes of a write or of a poke, and samples that an interrupt captures. A script names where they stand; a call has them with it.
+-- What an event brings: bytes of a write or of a poke, and samples that an interrupt captures. A script names their place; a call has them.
 use Rattle.std.specs.Prelude.{◌≡◌, ℕ, ◌-◌, ◌*◌, ◌<◌, ◌≤◌, ℤ, pos, List, [], ◌++◌, length, replicate}
 use Rattle.pcm_format.specs.declared.layout.Layout.{Layout}
 use Rattle.pcm_format.specs.Layouts.{channels_of}
@@ -52,19 +52,19 @@ bytes_brought pool (Write fd source at count) = bytes_at pool source at count
 bytes_brought pool (Poke fd offset at count) = bytes_at pool Inline at count
 bytes_brought pool event = []
 
--- the samples that it captures, where so many frames were handed over before
+-- the samples that it captures, where the device had been given `handed` frames before
 abbrev pub samples_brought : Layout → Pool → ℕ → Event → List ℤ
 samples_brought layout pool handed (Intr frames) = interleaved (captured_frames layout pool handed frames)
 samples_brought layout pool handed event = []
 
 -- ---- what a call has with it
 
--- so many samples: these first, and silence behind them
+-- `count` samples: these first, and silence after them
 abbrev pub padded : ℕ → List ℤ → List ℤ
 padded count samples = samples ++ replicate (count - length samples) (pos 0)
 
--- A script's event, with its pool, is what a call asks where so many frames were handed over: the same event, whose bytes and samples in the
--- pool are those of the call.
+-- A script's event, with its pool, is what a call asks where the device had been given `handed` frames before: the same event, whose bytes
+-- and samples in the pool are those of the call.
 pub record IsCalled (device : DeviceSeen) (handed : ℕ) (event : Event) (bytes : List ℕ) (samples : List ℤ) (pool : Pool) (named : Event) : Type 0 where
   pub same : placeless named ≡ placeless event
   pub fits : Fits device pool named

@@ -6,7 +6,7 @@ use Rattle.pcm_oss.specs.declared.reply.Errno.TheVariants.{BadF, Exist, Inval}
 use Rattle.pcm_group.specs.declared.sync_groups.Groups.{Groups}
 use Rattle.pcm_group.specs.Groups.{group_at}
 use Rattle.pcm_desk.specs.declared.device.Held.{Held}
-use Rattle.pcm_desk.specs.Desk.{by_way}
+use Rattle.pcm_desk.specs.Channels.{by_way}
 
 -- it is shut, so it may be opened
 abbrev pub shut : Option Held → Result Unit Errno

@@ -1,21 +1,24 @@
--- What a parent and descriptors are to the rules: a desk. And what a call of a client makes of it.
-use Rattle.std.specs.Prelude.{◌≡◌, ℕ, List, All, Option, Result, slice_set, take}
+-- What a parent and descriptors are to the rules: a desk. And what a call of a client makes of it, which is an event.
+use Rattle.std.specs.Prelude.{◌≡◌, ℕ, List, All, Option, None, Some, Result, slice_set, take}
 use Rattle.pcm_format.specs.declared.settings.Settings.{Settings}
 use Rattle.pcm_format.specs.Frames.{Frame}
 use Rattle.pcm_feeder.specs.declared.kind.Kind.{Kind}
 use Rattle.pcm_feeder.specs.Filters.{Filters}
 use Rattle.pcm_feeder.specs.Kept.{Kept}
+use Rattle.pcm_oss.specs.declared.event.Event.TheVariants.{Close, Ioctl, Join, Open, Poke, Read, StartGroup, Write}
 use Rattle.pcm_oss.specs.declared.event.Way.{Way}
 use Rattle.pcm_oss.specs.declared.reply.Answer.{Answer}
 use Rattle.pcm_oss.specs.declared.reply.Errno.{Errno}
+use Rattle.pcm_oss.specs.declared.reply.Errno.TheVariants.{BadF}
 use Rattle.pcm_oss.specs.declared.request.Request.{Request}
 use Rattle.pcm_oss.specs.Replies.{bytes_due}
+use Rattle.pcm_wave.specs.declared.pool.Source.TheVariants.{Inline}
 use Rattle.pcm_desk.specs.declared.device.Held.{Held}
 use Rattle.pcm_desk.specs.declared.here.Here.{Here}
 use Rattle.pcm_desk.specs.Device.{DeviceSeen, here_at, seen}
-use Rattle.pcm_desk.specs.Desk.{Desk, DeskTurn, by_way, close_on, closing, desk_here, held_by, ioctl_on, join_on, left, map_at, open_turn, play_at, poke_on, read_on, record_at, request_on, start_on, with_map, with_play, with_record, write_on}
-use Rattle.pcm_desk.specs.RecordBooks.{closed}
-use Rattle.pcm_desk.specs.MapBooks.{map_closed}
+use Rattle.pcm_desk.specs.declared.turn.Turn.{Turn}
+use Rattle.pcm_desk.specs.Channels.{Channel, own_close, own_ioctl}
+use Rattle.pcm_desk.specs.Desk.{Desk, DeskTurn, after, channel_at, desk_here, held_by, refusing, with_channel_at}
 use Rattle.pcm_play.specs.Channels.{IsPlayReady}
 use Rattle.pcm_vchan.specs.declared.parent.ParentOf.{ParentOf}
 use Rattle.pcm_vchan.specs.Parents.{map_books, play_books, play_channels, record_books, record_channels}
@@ -40,48 +43,52 @@ desk_with parent descriptors = record {
 abbrev pub with_held : Descriptors → ℕ → Option Held → Descriptors
 with_held descriptors fd held = record descriptors { held = record descriptors.held { value = slice_set descriptors.held.value fd held } }
 
--- ---- turns of the channel that a descriptor holds
+-- ---- the events that calls stand for
 
 -- an open of a way with settings
 abbrev pub open_call : ℕ → Way → Settings → DeviceSeen → Desk → DeskTurn
-open_call fd way settings device desk = open_turn desk fd way settings
+open_call fd way settings device desk = after device desk (Open fd way settings)
 
--- a write of so many bytes
+-- a write of this many bytes
 abbrev pub write_call : ℕ → ℕ → DeviceSeen → Desk → DeskTurn
-write_call fd count device desk = write_on device (held_by desk fd) desk count
+write_call fd count device desk = after device desk (Write fd Inline 0 count)
 
--- a poke of so many, from an offset on
+-- a poke of this many, from an offset on
 abbrev pub poke_call : ℕ → ℕ → ℕ → DeviceSeen → Desk → DeskTurn
-poke_call fd offset count device desk = poke_on device (held_by desk fd) desk offset count
+poke_call fd offset count device desk = after device desk (Poke fd offset 0 count)
 
--- a read of at most so many
+-- a read of at most this many
 abbrev pub read_call : ℕ → ℕ → DeviceSeen → Desk → DeskTurn
-read_call fd count device desk = read_on device (held_by desk fd) desk count
+read_call fd count device desk = after device desk (Read fd count)
 
--- a request of the channel alone, and one that groups have a part in
-abbrev pub ioctl_call : ℕ → Request → DeviceSeen → Desk → DeskTurn
-ioctl_call fd request device desk = ioctl_on device (held_by desk fd) desk request
-
+-- a request
 abbrev pub request_call : ℕ → Request → DeviceSeen → Desk → DeskTurn
-request_call fd request device desk = request_on device (held_by desk fd) desk request
+request_call fd request device desk = after device desk (Ioctl fd request)
 
 -- a join of a group, and the start of one
 abbrev pub join_call : ℕ → ℕ → DeviceSeen → Desk → DeskTurn
-join_call fd group device desk = join_on device (held_by desk fd) desk group
+join_call fd group device desk = after device desk (Join fd group)
 
 abbrev pub start_call : ℕ → ℕ → DeviceSeen → Desk → DeskTurn
-start_call fd group device desk = start_on device (held_by desk fd) desk group
+start_call fd group device desk = after device desk (StartGroup fd group)
 
 -- a close
 abbrev pub close_call : ℕ → DeviceSeen → Desk → DeskTurn
-close_call fd device desk = close_on device (held_by desk fd) (left (held_by desk fd) desk) fd
+close_call fd device desk = after device desk (Close fd)
 
--- the desk once a channel of whichever way was closed, whose descriptor is open still
+-- a request of the channel alone, as of one of no group
+abbrev pub channel_asked : DeviceSeen → Desk → Request → Option Held → DeskTurn
+channel_asked device desk request None = refusing desk BadF
+channel_asked device desk request (Some held) =
+    let turn : Turn Channel = own_ioctl device (desk_here device desk) request (channel_at device desk held) in
+    record { desk = with_channel_at desk held.slot turn.book; reply = turn.reply }
+
+abbrev pub ioctl_call : ℕ → Request → DeviceSeen → Desk → DeskTurn
+ioctl_call fd request device desk = channel_asked device desk request (held_by desk fd)
+
+-- the desk once a channel was closed, whose descriptor is open still
 abbrev pub closed_held : DeviceSeen → Desk → Held → Desk
-closed_held device desk held = by_way held.way
-    (with_play desk held.slot (closing device (desk_here device desk) (play_at device desk held.slot)))
-    (with_record desk held.slot (closed (record_at device desk held.slot)))
-    (with_map desk held.slot (map_closed (map_at device desk held.slot)))
+closed_held device desk held = with_channel_at desk held.slot (own_close device (desk_here device desk) (channel_at device desk held))
 
 -- ---- what a call makes of parent and descriptors
 

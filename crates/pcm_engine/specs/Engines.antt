@@ -15,7 +15,9 @@ use Rattle.pcm_desk.specs.Openings.{ring_bytes}
 use Rattle.pcm_desk.specs.PlaySafe.{PlayIsHere, PlayIsSafe}
 use Rattle.pcm_desk.specs.RecordSafe.{RecordIsSafe}
 use Rattle.pcm_desk.specs.MapSafe.{MapIsSafe}
-use Rattle.pcm_desk.specs.Desk.{Desk, after, desk_here, held_by, map_at, map_rate_at, play_at, play_rate_at, record_at, record_rate_at}
+use Rattle.pcm_desk.specs.Channels.{map_rate_at, play_rate_at, record_rate_at}
+use Rattle.pcm_desk.specs.Desk.{Desk, after, desk_here, held_by, map_at, play_at, record_at}
+use Rattle.pcm_desk.specs.Own.{HoldApart, IsIsolated, MembersWait}
 use Rattle.pcm_desk.specs.Events.{Fits, bytes_handed, frames_taken}
 use Rattle.pcm_sound.specs.DeviceList.{device_text}
 use Rattle.pcm_sound.specs.OwnAreas.{ChangesOneArea}
@@ -24,7 +26,6 @@ use Rattle.pcm_sound.specs.Pools.{AreAlike, IsLonger}
 use Rattle.pcm_sound.specs.Story.{story_of}
 use Rattle.pcm_sound.specs.StoryReplies.{reply_to}
 use Rattle.pcm_sound.specs.Together.{StartAsOne}
-use Rattle.pcm_desk.specs.Own.{HoldApart, IsIsolated, MembersWait}
 use Rattle.pcm_engine.specs.declared.engine.EngineOf.{EngineOf}
 use Rattle.pcm_play.specs.Channels.{IsPlayReady}
 use Rattle.pcm_engine.specs.Brought.{IsCalled, samples_asked}
@@ -58,7 +59,7 @@ abbrev pub StandsWithAlike : {B : Type 0} → (B → Kept) → EngineOf B → Ty
 StandsWithAlike kept engine = (one other : Pool) (events : List Event) → AreAlike one other events
     → Stands kept engine one events → Stands kept engine other events
 
--- and with every pool that has more bytes behind those that the events name
+-- and with every pool that has more bytes after those that the events name
 abbrev pub StandsWithLonger : {B : Type 0} → (B → Kept) → EngineOf B → Type 0
 StandsWithLonger kept engine = (one other : Pool) (events : List Event) → IsLonger one other → All (Fits (device_of engine) one) events
     → Stands kept engine one events → Stands kept engine other events
@@ -70,12 +71,12 @@ abbrev pub StandsForNext : {B : Type 0} → (B → Kept) → Pool → Event → 
 StandsForNext kept pool event old new = (events : List Event) → Stands kept old pool events
     → Stands kept new pool (events ++ event ∷ [])
 
--- it replies what is told after them
+-- its reply is the story's after them
 abbrev pub RepliesAsTold : {B : Type 0} → (B → Kept) → Pool → Event → EngineOf B → Reply → Type 0
 RepliesAsTold kept pool event engine reply = (events : List Event) → Stands kept engine pool events
     → reply ≡ reply_to (device_of engine) (story_of (device_of engine) pool events) event
 
--- the bytes that it hands over are those by which the device's text grows
+-- the bytes that it gives to the device are those by which the device's text grows
 abbrev pub HandsOver : {B : Type 0} → (B → Kept) → Pool → Event → EngineOf B → List ℕ → Type 0
 HandsOver kept pool event engine handed = (events : List Event) → Stands kept engine pool events
     → device_text (device_of engine) pool (events ++ event ∷ []) ≡ device_text (device_of engine) pool events ++ handed
@@ -180,7 +181,7 @@ pub record RingsHold {B : Type 0} (engine : EngineOf B) : Type 0 where
   pub device : length engine.parent.ring.bytes ≡ ring_frames (device_of engine) * device_frame_bytes (device_of engine)
 
 -- The device is within its limits, each box of the engine is of its place's kind, each channel stands for its book, the bus has made what was
--- handed over, all books are in order, and no ring passes its size. Every engine is so, from its first moment on, with whatever pools it is stepped; no type can say it of boxes.
+-- given to the device, all books are in order, and no ring passes its size. Every engine is so, from its first moment on, with whatever pools it is stepped; no type can say it of boxes.
 pub record AreReady {B : Type 0} (kind : B → Kind) (kept : B → Kept) (engine : EngineOf B) : Type 0 where
   pub limits : IsInLimits (device_of engine)
   pub playing : All (IsPlayReady kind kept engine.tables) (play_channels engine.parent)
@@ -201,27 +202,31 @@ pub record IsUnchanged {B : Type 0} (old new : EngineOf B) : Type 0 where
 
 -- ---- a step, whatever pools the engine was stepped with
 
--- What a step on an event makes of an engine that is ready: what it told, and that it handed so many bytes over at the front of a room.
-pub record HasStepped {B : Type 0} (kind : B → Kind) (kept : B → Kept) (event : Event) (old new : EngineOf B) (told : Reply) (size : ℕ) (room filled : List ℕ) : Type 0 where
+-- The desk and the reply of a step are those of the rules, by the device alone. No client sees what others do, but that a slot is taken: no
+-- book depends on another, and a read gets what was kept in its own slot, by its own book.
+pub record GoesByRules {B : Type 0} (kept : B → Kept) (event : Event) (old new : EngineOf B) (told : Reply) : Type 0 where
   pub device : device_of new ≡ device_of old
   pub handed : new.parent.handed ≡ old.parent.handed + frames_taken event
-  pub ready : AreReady kind kept new
-  -- The desk and the answer are those of the rules, the counts of every book are in order, no run gave a frame past what is mixed
-  -- or is over and goes on, and no ring passes its size.
   pub desk : desk_of new ≡ (after (device_of old) (desk_of old) event).desk
   pub result : told.result ≡ (after (device_of old) (desk_of old) event).reply
+  pub refused : IsErr told.result → IsUnchanged old new
+  pub isolated : IsIsolated (device_of old) event (desk_of old) (desk_of new) told.result
+  pub read : AnswersKept kept event old told.bytes
+  pub taken : TakesFront event old told.bytes
+
+-- What a step on an event makes of an engine that is ready: it goes by the rules and is ready again, and its device bytes, of which there are
+-- `size`, stand at the front of a room.
+pub record HasStepped {B : Type 0} (kind : B → Kind) (kept : B → Kept) (event : Event) (old new : EngineOf B) (told : Reply) (size : ℕ) (room filled : List ℕ) : Type 0 where
+  pub rules : GoesByRules kept event old new told
+  pub ready : AreReady kind kept new
+  -- The counts of every book are in order, no run gave a frame past what is mixed or is over and goes on, and no ring passes its size.
   pub safe : BooksAreSafe (device_of new) (desk_of new)
   pub records_safe : RecordsAreSafe (device_of new) (desk_of new)
   pub maps_safe : MapBooksAreSafe (device_of new) (desk_of new)
   pub places : BooksAreHere (device_of new) (desk_of new)
   pub rings : RingsHold new
-  pub refused : IsErr told.result → IsUnchanged old new
-  -- No client sees what others do, but that a slot is taken: no two descriptors hold one, no book looks at another, and a
-  -- read gets what was kept in its own slot, by its own book.
+  -- no two descriptors hold one slot, and the members of groups wait
   pub apart : HoldApart (desk_of new)
   pub members : MembersWait (device_of new) (desk_of new)
-  pub isolated : IsIsolated (device_of old) event (desk_of old) (desk_of new) told.result
-  pub read : AnswersKept kept event old told.bytes
-  pub taken : TakesFront event old told.bytes
   pub count : size ≡ bytes_handed (device_of old) event
   pub rest : drop size filled ≡ drop size room

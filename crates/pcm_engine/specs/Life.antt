@@ -1,4 +1,4 @@
--- How long an engine lasts: no count of a desk runs ahead of the frames that were mixed and handed over.
+-- How long an engine lasts: no count of a desk runs ahead of the frames that were mixed and given to the device.
 use Rattle.std.specs.Prelude.{ℕ, ◌+◌, ◌*◌, ◌≤◌, All}
 use Rattle.pcm_oss.specs.declared.fragments.TheConstants.{RING_BYTES}
 use Rattle.pcm_desk.specs.declared.map_book.MapBook.{MapBook}
@@ -14,7 +14,7 @@ bytes_for_frame = 1536
 pub record PlayKeepsPace (mixed : ℕ) (book : PlayBook) : Type 0 where
   pub played : book.done + bytes_for_frame * book.given ≤ bytes_for_frame * mixed
 
--- A recording captures no frame that wasn't handed over, and keeps no more bytes for one than a ring holds.
+-- A recording captures no more frames than the device was given, and keeps at most the bytes of a ring for each.
 pub record RecordKeepsPace (handed : ℕ) (book : RecordBook) : Type 0 where
   pub captured : book.captured ≤ handed
   pub kept : book.kept ≤ RING_BYTES * handed

@@ -33,13 +33,13 @@ pub record MapSlotStands {B : Type 0} (kept : B → Kept) (device : DeviceSeen) 
   pub stands : MapStands kept (filters_of device) channel (map_at device story.desk slot) (map_bytes_counted device story slot)
   pub area : area_of channel ≡ story.areas slot
 
--- all frames that a story has mixed, at 32 bits, as many as those that were handed over need
+-- all frames that a story has mixed, at 32 bits, as many as those need that the device has been given
 abbrev pub story_frames : DeviceSeen → Story → ℕ → List Frame
 story_frames device story handed = mixed_frames device (mix_at device story.faders (table_of device story)) (mixed_for device handed)
 
 -- A desk, channels, the chain between the mix and the device, and a device's ring stand for a story: the desk is the story's, each
--- channel stands for its slot's book and the bytes that it counts, and a mapped one for its area besides, the chain has made what was handed over of what was mixed, and the
--- device's ring holds what was not handed over.
+-- channel stands for its slot's book and the bytes that it counts, and a mapped one for its area besides, the chain has made of what was
+-- mixed as many frames as the device has been given, and the device's ring holds those that it hasn't been given.
 pub record PartsStand {B : Type 0} (kept : B → Kept) (device : DeviceSeen) (desk : Desk) (channels : List (PlayChannelOf B)) (maps : List (MapChannelOf B)) (chain : ChainOf B) (ring : List ℕ) (story : Story) : Type 0 where
   pub desk_is : desk ≡ story.desk
   pub slots : (slot : ℕ) (other : PlayChannelOf B) → slot < length channels

@@ -9,9 +9,9 @@ use Rattle.pcm_mixdev.specs.Mixers.{Levels}
 use Rattle.pcm_desk.specs.declared.device.Held.{Held}
 use Rattle.pcm_chain.specs.declared.chain.ChainOf.{ChainOf}
 use Rattle.pcm_desk.specs.Device.{DeviceSeen, filters_of, seen}
-use Rattle.pcm_desk.specs.Desk.{Desk, by_way, held_by, mixed_by}
+use Rattle.pcm_desk.specs.Channels.{Channel, Mapped, Playing, Recording, by_way, mixed_by}
+use Rattle.pcm_desk.specs.Desk.{Desk, channel_at, held_by}
 use Rattle.pcm_desk.specs.declared.device.Device.{Device}
-use Rattle.pcm_desk.specs.Own.{Channel, Playing, Recording, Mapped, channel_at}
 use Rattle.pcm_desk.specs.RecordBooks.{record_fill_of}
 use Rattle.pcm_play.specs.declared.channel.PlayChannelOf.{PlayChannelOf}
 use Rattle.pcm_play.specs.Channels.{PlayMoves}
@@ -39,12 +39,12 @@ abbrev pub area_written : List ℕ → Desk → Event → ℕ → List ℕ → L
 area_written bytes desk (Poke fd offset at count) slot area = poked_by fd offset bytes desk slot area
 area_written bytes desk event slot area = area
 
--- the frames that an event mixes, where so many were handed over before
+-- the frames that an event mixes, where the device had been given `handed` frames before
 abbrev pub frames_mixed : DeviceSeen → ℕ → Event → ℕ
 frames_mixed device handed (Intr n) = mixed_by device handed n
 frames_mixed device handed event = 0
 
--- the channels after an event that brings such bytes, where so many frames were handed over before
+-- the channels after an event that brings these bytes, where the device had been given `handed` frames before
 abbrev pub ChannelsMove : {B : Type 0} → (B → Kind) → (B → Kept) → DeviceSeen → List ℕ → ℕ → Event → List (PlayChannelOf B) → List (PlayChannelOf B) → Type 0
 ChannelsMove kind kept device bytes handed event old new =
     Each (PlayMoves kind kept (filters_of device) (bytes_moved bytes event) (frames_mixed device handed event)) old new
@@ -65,7 +65,7 @@ abbrev pub RecordersMove : {B : Type 0} → (B → Kind) → (B → Kept) → De
 RecordersMove kind kept device samples (Intr n) old new = Each (Captures kind kept device n samples) old new
 RecordersMove kind kept device samples event old new = Each (RecordMoves kind kept (filters_of device) [] 0) old new
 
--- the bytes that a read of so many gets of a channel, from those that were kept of its recording: the oldest that no read got
+-- the bytes that a read of `count` bytes gets of a channel, from those that were kept of its recording: the oldest that no read got
 abbrev pub channel_read : ℕ → Channel → List ℕ → List ℕ
 channel_read count (Playing book) bytes = []
 channel_read count (Recording book) bytes = take (min count (record_fill_of book)) (drop book.read bytes)

@@ -1,4 +1,4 @@
-//! What an event brings: bytes for a ring or an area, and samples to capture. A pool has those of a script, a caller his own. And what it takes.
+//! What an event brings: bytes for a ring or an area, and samples to capture, from a script's pool or from a caller. And what it takes.
 
 ghost use Rattle.std.specs.Prelude.{◌≡◌, ◌≤◌, length, take};
 ghost use Rattle.pcm_wave.specs.Pools.{IsCaptureIn};
@@ -48,7 +48,7 @@ pub fn samples_asked(layout: Layout, event: &Event) -> usize
     }
 }
 
-/// How many bytes of a device an event hands over: an interrupt alone hands any.
+/// How many bytes an event gives to a device: an interrupt alone gives any.
 pub fn bytes_handed(device: &Device, event: &Event) -> usize
     ensures { result ≡ bytes_handed (unfiltered device.now) event.now }
 {
@@ -58,7 +58,7 @@ pub fn bytes_handed(device: &Device, event: &Event) -> usize
     }
 }
 
-/// Loads what an event captures of a pool, where so many frames were handed over before, into the front of `captured`.
+/// Loads what an event captures of a pool, where the device had been given `handed` frames before, into the front of `captured`.
 pub fn load_brought(layout: Layout, event: &Event, pool: &Pool, handed: u64, captured: &mut [i32])
     requires captures { IsCaptureIn layout pool.now }
     requires room { samples_asked layout event.now ≤ length captured.old }
@@ -72,7 +72,7 @@ pub fn load_brought(layout: Layout, event: &Event, pool: &Pool, handed: u64, cap
     }
 }
 
-/// Puts samples at the front of so many, and silence behind them.
+/// Puts samples at the front of the first `count`, and silence after them.
 pub fn pad(samples: &[i32], count: usize, captured: &mut [i32])
     requires within { length samples.now ≤ count }
     requires room { count ≤ length captured.old }

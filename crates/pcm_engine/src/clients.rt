@@ -198,7 +198,7 @@ pub fn close<B: Feeder>(
     Ok(answer)
 }
 
-// Closes a channel of whichever way.
+// Closes a channel, whatever its way.
 fn close_channel<B: Feeder>(parent: &mut ParentOf<B>, held: Held, here: Here) -> Answer
     requires play { held.way ≡ Play → held.slot < fixed_len parent.old.channels }
     requires recording { held.way ≡ Record → held.slot < fixed_len parent.old.recorders }

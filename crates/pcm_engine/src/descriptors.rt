@@ -1,9 +1,10 @@
-//! Who holds which channel and who starts with whom, and what a descriptor is refused for.
+//! Which descriptor holds which channel, which channels start together, and what a descriptor is refused for.
 
 ghost use Rattle.std.specs.Prelude.{◌≡◌, ◌<◌, IfOk, None, Some, replicate, slice_index_or};
 ghost use Rattle.pcm_oss.specs.declared.event.TheConstants.{SLOTS};
 ghost use Rattle.pcm_group.specs.Groups.{no_groups};
-ghost use Rattle.pcm_desk.specs.Desk.{leaving, left_by, member_refusal};
+ghost use Rattle.pcm_desk.specs.Channels.{member_refusal};
+ghost use Rattle.pcm_desk.specs.Desk.{leaving, left_by};
 ghost use Rattle.pcm_engine.specs.Descriptors.{holding, is_member_in, shut, slot_of};
 ghost use Rattle.pcm_engine.specs.Desks.{with_held};
 
@@ -104,7 +105,7 @@ impl Descriptors {
     /// A channel is a member of no group any more.
     pub fn leave(&mut self, held: Held)
         requires { held.slot < SLOTS }
-        ensures { self.new ≡ record self.old { groups = leaving (Some held) self.old.groups } }
+        ensures { self.new ≡ record self.old { groups = leaving held self.old.groups } }
     {
         self.groups.leave(held.way, held.slot);
     }
@@ -125,7 +126,7 @@ impl Descriptors {
     /// A sync leaves the group of its channel.
     pub fn leave_by(&mut self, held: Held, request: Request)
         requires { held.slot < SLOTS }
-        ensures { self.new ≡ record self.old { groups = left_by request (Some held) self.old.groups } }
+        ensures { self.new ≡ record self.old { groups = left_by request held self.old.groups } }
     {
         if matches!(request, Request::Sync) {
             self.leave(held);

@@ -5,6 +5,7 @@ ghost use Rattle.pcm_fixed.specs.Fixed.{fixed_len};
 ghost use Rattle.pcm_engine.specs.declared.limits.TheConstants.{LIFE};
 ghost use Rattle.pcm_desk.specs.Events.{Fits, bytes_handed, frames_taken};
 ghost use Rattle.pcm_desk.specs.Device.{seen};
+ghost use Rattle.pcm_desk.specs.Desk.{after};
 ghost use Rattle.pcm_desk.specs.Own.{HoldApart};
 ghost use Rattle.pcm_vchan.specs.Parents.{map_channels, play_channels, record_channels, HasBus, HasRacks};
 ghost use Rattle.pcm_bus.specs.Slots.{MapAreOf, PlayAreOf};
@@ -53,11 +54,9 @@ impl<B: Feeder> EngineOf<B> {
     ghost use Rattle.pcm_wave.specs.declared.pool.Pool.{Pool};
     ghost use Rattle.pcm_wave.specs.Pools.{IsCaptureIn};
     ghost use Rattle.pcm_desk.specs.Device.{IsInLimits, device_settings};
-    ghost use Rattle.pcm_desk.specs.Desk.{after};
-    ghost use Rattle.pcm_desk.specs.Own.{IsIsolated, MembersWait};
     ghost use Rattle.pcm_engine.specs.Brought.{bytes_asked, padded, IsAllowed};
     ghost use Rattle.pcm_feeder.specs.Racks.{AreRacks, list_of};
-    ghost use Rattle.pcm_engine.specs.Engines.{device_of, desk_of, AnswersKept, AreReady, AreasGoAlone, BeginsAsOne, BooksAreHere, BooksAreSafe, HandsOver, HandsOverPlain, HasStepped, IsUnchanged, MapBooksAreSafe, MappedStandInPlace, RecordsAreSafe, RepliesAsTold, RingsHold, Stands, StandsForNext, StepCaptures, StepMaps, StepMoves, StepsAsCalled, StepTurns, TakesFront, samples_at_hand, samples_most};
+    ghost use Rattle.pcm_engine.specs.Engines.{AnswersKept, AreReady, HasStepped, IsUnchanged, Stands, StepCaptures, StepMaps, StepMoves, StepTurns, StepsAs, StepsAsCalled, desk_of, device_of, samples_at_hand, samples_most};
 
     /// The engine of a device with its filters, before its first event. Its channels pick their stages from the racks, one rack a slot; after
     /// a refusal the racks are dropped. All memory of the engine is taken here.
@@ -90,7 +89,7 @@ impl<B: Feeder> EngineOf<B> {
         })
     }
 
-    /// Steps through one event, and keeps its reply. Returns how many device bytes the event handed over: they stand at
+    /// Steps through one event, and keeps its reply. Returns how many bytes the event gave to the device: they stand at
     /// the front of `out`, and the rest of `out` stays.
     pub fn step(
         &mut self,
@@ -105,48 +104,11 @@ impl<B: Feeder> EngineOf<B> {
         requires life { self.old.parent.handed + frames_taken event.now ≤ LIFE }
         requires ready { AreReady B.kind B.kept self.old }
 
-        ensures device { device_of self.new ≡ device_of self.old }
-        ensures handed { self.new.parent.handed ≡ self.old.parent.handed + frames_taken event.now }
-        ensures ready { AreReady B.kind B.kept self.new }
-
-        // The desk and the answer are those of the rules, the counts of every book are in order, no run gave a frame past what is mixed
-        // or is over and goes on, and no ring passes its size.
-        ensures desk { desk_of self.new
-            ≡ (after (device_of self.old) (desk_of self.old) event.now).desk }
-        ensures result { reply.new.result
-            ≡ (after (device_of self.old) (desk_of self.old) event.now).reply }
-        ensures safe { BooksAreSafe (device_of self.new) (desk_of self.new) }
-        ensures records_safe { RecordsAreSafe (device_of self.new) (desk_of self.new) }
-        ensures maps_safe { MapBooksAreSafe (device_of self.new) (desk_of self.new) }
-        ensures places { BooksAreHere (device_of self.new) (desk_of self.new) }
-        ensures rings { RingsHold self.new }
-
-        // Whatever it stood for with this pool, it stands for that with the event appended.
-        ensures stands { StandsForNext B.kept pool.now event.now self.old self.new }
-        ensures reply { RepliesAsTold B.kept pool.now event.now self.old reply.new }
-        ensures bytes { HandsOver B.kept pool.now event.now self.old (take result out.new) }
-        // Without a shortage they are those of the runs from their starts to their ends: no count has a part in them.
-        ensures plain { HandsOverPlain B.kept pool.now event.now self.old (take result out.new) }
-
-        // A mapped channel is never short, whatever happens.
-        ensures mapped { MappedStandInPlace B.kept pool.now event.now self.old }
-
-        ensures refused { IsErr reply.new.result → IsUnchanged self.old self.new }
-
-        // No client sees what others do, but that a slot is taken: no two descriptors hold one, no book looks at another, and a
-        // read gets what was kept in its own slot, by its own book.
-        ensures apart { HoldApart (desk_of self.new) }
-        ensures members { MembersWait (device_of self.new) (desk_of self.new) }
-        // All members of a group that starts do so at one frame of the mix and one of the device.
-        ensures together { BeginsAsOne B.kept pool.now event.now self.old reply.new.result }
-        ensures isolated { IsIsolated (device_of self.old) event.now
-            (desk_of self.old) (desk_of self.new) reply.new.result }
-        ensures areas { AreasGoAlone B.kept pool.now event.now self.old }
-        ensures read { AnswersKept B.kept event.now self.old reply.new.bytes }
-        ensures taken { TakesFront event.now self.old reply.new.bytes }
-
-        ensures count { result ≡ bytes_handed (device_of self.old) event.now }
-        ensures rest { drop result out.new ≡ drop result out.old }
+        ensures stepped { HasStepped B.kind B.kept event.now self.old self.new
+            reply.new result out.old out.new }
+        // Whatever it stood for with this pool, it stands for that with the event appended, and its bytes and its reply are those of the story.
+        ensures told { StepsAs B.kept pool.now event.now self.old self.new
+            reply.new (take result out.new) }
     {
         let layout = self.parent.device.settings.layout;
         load_brought(layout, event, pool, self.parent.handed, &mut self.captured);
@@ -154,7 +116,7 @@ impl<B: Feeder> EngineOf<B> {
     }
 
     /// Steps through one event whose bytes the caller has, and what is captured: samples at 32 bits, channel by channel, frame by frame, and silence
-    /// behind them. Besides, it is `step`: of each event of a script that is the same, with its pool.
+    /// after them. Besides, it is `step`: of each event of a script that is the same, with its pool.
     pub fn step_with(
         &mut self,
         event: &Event,
@@ -271,7 +233,7 @@ impl<B: Feeder> EngineOf<B> {
     }
 }
 
-// Keeps an answer with which no bytes come. No bytes are handed over by what is answered so.
+// Keeps an answer with which no bytes come. No bytes go to the device with such an answer.
 fn tell(reply: &mut ReplyBuf, answer: Result<Answer, Errno>) -> usize
     requires { bytes_due answer ≡ 0 }
     ensures kept { reply.new ≡ record { result = answer; bytes = [] } }

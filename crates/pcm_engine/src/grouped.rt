@@ -4,9 +4,10 @@ ghost use Rattle.std.specs.Prelude.{◌≡◌, ◌<◌};
 ghost use Rattle.pcm_fixed.specs.Fixed.{fixed_len};
 ghost use Rattle.pcm_oss.specs.declared.event.Way.TheVariants.{Play, Record, Map};
 ghost use Rattle.pcm_desk.specs.declared.limits.TheConstants.{DESCRIPTORS};
-ghost use Rattle.pcm_desk.specs.Desk.{rests};
-ghost use Rattle.pcm_desk.specs.Device.{DeviceSeen};
+ghost use Rattle.pcm_desk.specs.Channels.{rests};
+ghost use Rattle.pcm_desk.specs.Desk.{channel_at};
 ghost use Rattle.pcm_desk.specs.Own.{HoldApart};
+ghost use Rattle.pcm_desk.specs.Device.{DeviceSeen};
 ghost use Rattle.pcm_engine.specs.declared.descriptors.Descriptors.{Descriptors};
 ghost use Rattle.pcm_engine.specs.Answered.{AnswersBy, CanBeAsked};
 ghost use Rattle.pcm_engine.specs.Desks.{desk_with, join_call, request_call, start_call};
@@ -109,7 +110,7 @@ fn is_at_rest<B: Feeder>(parent: &ParentOf<B>, held: Held) -> bool
     requires play { held.way ≡ Play → held.slot < fixed_len parent.now.channels }
     requires recording { held.way ≡ Record → held.slot < fixed_len parent.now.recorders }
     requires mapped { held.way ≡ Map → held.slot < fixed_len parent.now.maps }
-    ensures { (device : DeviceSeen) (descriptors : Descriptors) → result ≡ rests device (desk_with parent.now descriptors) held }
+    ensures { (device : DeviceSeen) (descriptors : Descriptors) → result ≡ rests (channel_at device (desk_with parent.now descriptors) held) }
 {
     match held.way {
         Way::Play => parent.channels[held.slot].is_at_rest(),

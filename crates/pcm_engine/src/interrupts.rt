@@ -11,7 +11,7 @@ ghost use Rattle.pcm_vchan.specs.Slots.{RecordAreOf};
 use pcm_feeder::{Feeder, Tables};
 use pcm_vchan::ParentOf;
 
-/// The device's interrupt, with what is captured at the front of `captured`. The bytes that are handed over stand at the front of `out`.
+/// The device's interrupt, with what is captured at the front of `captured`. The bytes for the device stand at the front of `out`.
 /// Returns how many they are.
 pub fn interrupt<B: Feeder>(
     parent: &mut ParentOf<B>,

@@ -6,7 +6,7 @@ ghost use Rattle.pcm_engine.specs.Engines.{StandsWithAlike, StandsWithLonger};
 use pcm_feeder::Feeder;
 
 /// An engine that stands for events with a pool stands for them with every pool that is the same to them: so a caller may put more bytes
-/// behind those of its pool between two steps.
+/// after those of its pool between two steps.
 pub fn engines_stand_with_alike_pools<B: Feeder>()
     ensures alike { (engine : EngineOf B) → StandsWithAlike B.kept engine }
     ensures longer { (engine : EngineOf B) → StandsWithLonger B.kept engine }

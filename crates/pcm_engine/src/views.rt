@@ -9,7 +9,8 @@ ghost use Rattle.pcm_oss.specs.declared.fragments.TheConstants.{RING_BYTES};
 ghost use Rattle.pcm_engine.specs.declared.limits.TheConstants.{LIFE};
 ghost use Rattle.pcm_desk.specs.declared.limits.TheConstants.{DESCRIPTORS};
 ghost use Rattle.pcm_desk.specs.Device.{map_slots, parent_rate, play_slots, record_slots};
-ghost use Rattle.pcm_desk.specs.Desk.{desk_here, group_of, held_by, map_at, play_at, play_rate_at, record_at, record_rate_at, slot_number};
+ghost use Rattle.pcm_desk.specs.Channels.{play_rate_at, record_rate_at};
+ghost use Rattle.pcm_desk.specs.Desk.{desk_here, group_of, held_by, map_at, play_at, record_at, slot_number};
 ghost use Rattle.pcm_desk.specs.Here.{IsHere};
 ghost use Rattle.pcm_desk.specs.PlayBooks.{is_play_free};
 ghost use Rattle.pcm_desk.specs.RecordBooks.{is_record_free};
@@ -34,7 +35,7 @@ impl<B: Feeder> EngineOf<B> {
         self.descriptors.held(fd)
     }
 
-    /// The number of a slot that stands at such a place among those of its way.
+    /// The number of a slot, by its place among those of its way.
     pub fn number_of(&self, way: Way, place: usize) -> usize
         requires { place < SLOTS }
         ensures { result ≡ slot_number (length (desk_of self.now).play) way place }
@@ -142,7 +143,7 @@ impl<B: Feeder> EngineOf<B> {
         self.parent.bus.chain.plan().rate()
     }
 
-    /// How many frames were handed over.
+    /// How many frames the device has been given.
     pub fn handed(&self) -> u64
         ensures is { result ≡ (desk_of self.now).handed }
         ensures within { result ≤ LIFE }

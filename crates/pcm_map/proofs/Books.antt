@@ -28,7 +28,7 @@ use Rattle.pcm_desk.specs.BookTurns.{doing, refused}
 use Rattle.pcm_desk.specs.Openings.{ring_bytes}
 use Rattle.pcm_desk.specs.MapBooks.{is_map_free, is_map_running, map_gives, map_refilled, map_refilled_in, poke_turn, taken_of}
 use Rattle.pcm_desk.specs.MapSafe.{MapIsSafe}
-use Rattle.pcm_desk.specs.Desk.{map_mixing, map_rate_at}
+use Rattle.pcm_desk.specs.Channels.{map_mixing, map_rate_at}
 use Rattle.pcm_desk.proofs.Ratios.{device-is, plan-between-fits}
 use Rattle.pcm_map.specs.declared.channel.MapChannelOf.{MapChannelOf}
 use Rattle.pcm_map.specs.Channels.{CountsFit, IsMapPlanned, IsMapServed}

@@ -29,7 +29,7 @@ use Rattle.pcm_desk.specs.Device.{DeviceSeen, mix_settings, play_rate_between, s
 use Rattle.pcm_desk.specs.MapBooks.{is_map_free, is_map_running, taken_of}
 use Rattle.pcm_desk.specs.MapRequests.{map_ask}
 use Rattle.pcm_desk.specs.MapSafe.{MapIsSafe}
-use Rattle.pcm_desk.specs.Desk.{map_rate_at}
+use Rattle.pcm_desk.specs.Channels.{map_rate_at}
 use Rattle.pcm_sound.specs.Added.{map_turned}
 use Rattle.pcm_sound.specs.Areas.{area_bytes}
 use Rattle.pcm_sound.specs.Gains.{map_gain}

@@ -36,7 +36,7 @@ use Rattle.pcm_desk.specs.declared.device.Device.{Device}
 use Rattle.pcm_desk.specs.declared.map_book.MapBook.{MapBook}
 use Rattle.pcm_desk.specs.Device.{DeviceSeen, filters_of, play_plan_between, seen}
 use Rattle.pcm_desk.specs.MapBooks.{is_map_running, map_gives, taken_of}
-use Rattle.pcm_desk.specs.Desk.{map_rate_at}
+use Rattle.pcm_desk.specs.Channels.{map_rate_at}
 use Rattle.pcm_desk.specs.Openings.{ring_bytes}
 use Rattle.pcm_sound.specs.Areas.{area_bytes}
 use Rattle.pcm_sound.specs.Gains.{map_gain}

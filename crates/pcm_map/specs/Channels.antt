@@ -14,7 +14,8 @@ use Rattle.pcm_desk.specs.declared.device.Device.{Device}
 use Rattle.pcm_desk.specs.Device.{seen}
 use Rattle.pcm_desk.specs.MapBooks.{is_map_free, taken_of}
 use Rattle.pcm_desk.specs.Openings.{ring_bytes}
-use Rattle.pcm_desk.specs.Desk.{map_rate_at, map_unopened}
+use Rattle.pcm_desk.specs.Channels.{map_rate_at}
+use Rattle.pcm_desk.specs.Desk.{map_unopened}
 use Rattle.pcm_sound.specs.Added.{map_turned}
 use Rattle.pcm_sound.specs.Areas.{is_recut, silent_area}
 use Rattle.pcm_sound.specs.MapRuns.{area_taken}

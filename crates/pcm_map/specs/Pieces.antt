@@ -8,7 +8,7 @@ use Rattle.pcm_chain.specs.Chains.{plan_in}
 use Rattle.pcm_desk.specs.declared.map_book.MapBook.{MapBook}
 use Rattle.pcm_desk.specs.Device.{seen}
 use Rattle.pcm_desk.specs.MapBooks.{map_gives, taken_of}
-use Rattle.pcm_desk.specs.Desk.{map_rate_at}
+use Rattle.pcm_desk.specs.Channels.{map_rate_at}
 use Rattle.pcm_sound.specs.Areas.{area_bytes}
 use Rattle.pcm_sound.specs.Gains.{map_gain}
 use Rattle.pcm_sound.specs.Given.{given_samples}

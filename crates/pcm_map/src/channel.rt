@@ -15,7 +15,7 @@ ghost use Rattle.pcm_desk.specs.Device.{HasRates, seen};
 ghost use Rattle.pcm_desk.specs.MapBooks.{is_map_free, is_map_running, is_map_setup, map_begun, map_closed, poke_turn, taken_of};
 ghost use Rattle.pcm_desk.specs.MapRequests.{map_ask};
 ghost use Rattle.pcm_desk.specs.MapSafe.{MapIsSafe};
-ghost use Rattle.pcm_desk.specs.Desk.{map_mixing};
+ghost use Rattle.pcm_desk.specs.Channels.{map_mixing};
 ghost use Rattle.pcm_desk.proofs.Props.{map_props};
 ghost use Rattle.pcm_chain.specs.Chains.{marks_in, HasRack};
 ghost use Rattle.pcm_path.specs.Paths.{path_rate, CanBegin, HasBoxes, HoldBlock, IsEmpty, IsPlanned};

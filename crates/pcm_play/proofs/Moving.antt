@@ -21,7 +21,7 @@ use Rattle.pcm_path.proofs.Paths.{device-served, planned-as}
 use Rattle.pcm_desk.specs.declared.here.Here.{Here}
 use Rattle.pcm_desk.specs.declared.play_book.PlayBook.{PlayBook}
 use Rattle.pcm_desk.specs.Device.{DeviceSeen, IsDevice, seen}
-use Rattle.pcm_desk.specs.Desk.{asking, closing, play_rate_at}
+use Rattle.pcm_desk.specs.Channels.{asking, closing, play_rate_at}
 use Rattle.pcm_desk.specs.Openings.{ring_bytes}
 use Rattle.pcm_desk.specs.PlayBooks.{accepting, close_turn, is_draining, is_play_free, play_fill_of, play_free_of, play_settled, takes_none, write_turn}
 use Rattle.pcm_desk.proofs.Refused.{write-done}

@@ -28,7 +28,7 @@ use Rattle.pcm_chain.specs.Pulls.{waiting_frames, IsPastTheEnd, Pulls, StandsBeh
 use Rattle.pcm_desk.specs.declared.play_book.PlayBook.{PlayBook}
 use Rattle.pcm_desk.specs.Device.{DeviceSeen, IsDevice, filters_of, mix_settings, play_plan_between, seen}
 use Rattle.pcm_desk.specs.PlayBooks.{frames_written, giving, is_draining, is_started, play_fill_of, refilled}
-use Rattle.pcm_desk.specs.Desk.{mixing, play_rate_at}
+use Rattle.pcm_desk.specs.Channels.{mixing, play_rate_at}
 use Rattle.pcm_desk.proofs.Ratios.{plan-between-fits}
 use Rattle.pcm_sound.specs.Gains.{book_gain}
 use Rattle.pcm_sound.specs.Given.{given_samples}

@@ -13,7 +13,7 @@ use Rattle.pcm_desk.specs.declared.play_book.PlayState.TheVariants.{Free, Setup,
 use Rattle.pcm_desk.specs.Device.{DeviceSeen}
 use Rattle.pcm_desk.specs.PlayBooks.{allowed_in, eaten_after, frames_written, giving, is_draining, is_started, refilled}
 use Rattle.pcm_desk.specs.PlaySafe.{IsPlayInOrder, PlayIsSafe}
-use Rattle.pcm_desk.specs.Desk.{mixing, play_rate_at}
+use Rattle.pcm_desk.specs.Channels.{mixing, play_rate_at}
 
 -- ---- books
 

@@ -12,7 +12,8 @@ use Rattle.pcm_desk.specs.declared.device.Device.{Device}
 use Rattle.pcm_desk.specs.declared.here.Here.{Here}
 use Rattle.pcm_desk.specs.PlayBooks.{frames_written, is_draining, is_play_free, play_settled}
 use Rattle.pcm_desk.specs.PlaySafe.{PlayIsHere}
-use Rattle.pcm_desk.specs.Desk.{closing, play_rate_at, play_unopened}
+use Rattle.pcm_desk.specs.Channels.{closing, play_rate_at}
+use Rattle.pcm_desk.specs.Desk.{play_unopened}
 use Rattle.pcm_sound.specs.Added.{turned}
 use Rattle.pcm_oss.specs.declared.fragments.TheConstants.{RING_BYTES}
 use Rattle.pcm_oss.specs.declared.event.Way.TheVariants.{Play}

@@ -13,7 +13,7 @@ ghost use Rattle.pcm_desk.specs.PlaySafe.{PlayIsSafe};
 ghost use Rattle.pcm_desk.proofs.Props.{book_props};
 ghost use Rattle.pcm_path.specs.Paths.{path_rate, HasBoxes, HoldBlock, Serves};
 ghost use Rattle.std.proofs.Props.{props};
-ghost use Rattle.pcm_desk.specs.Desk.{asking, mixing};
+ghost use Rattle.pcm_desk.specs.Channels.{asking, mixing};
 ghost use Rattle.pcm_desk.specs.Here.{IsHere};
 
 use pcm_desk::{Device, Here, PlayBook, PlayState};

@@ -16,7 +16,7 @@ pub div_grows : (a b d : ℕ) → 0 < d → a ≤ b → a / d ≤ b / d
 div_grows a b d above h = (le-div_iff_mul-le {k = d} {x = a / d} {y = b} above).1 (omega (arith, div-mul-le_self a d))
 
 -- the quotient of a sum is at most one above the sum of the quotients
-div_apart : (a b d : ℕ) → 0 < d → (a + b) / d ≤ a / d + b / d + 1
+pub div_apart : (a b d : ℕ) → 0 < d → (a + b) / d ≤ a / d + b / d + 1
 div_apart a b d above =
     let x = a / d in
     let y = b / d in

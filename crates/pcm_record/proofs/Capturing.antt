@@ -28,7 +28,7 @@ use Rattle.pcm_desk.specs.declared.record_book.RecordBook.{RecordBook}
 use Rattle.pcm_desk.specs.declared.record_book.RecordState.{RecordState}
 use Rattle.pcm_desk.specs.declared.record_book.RecordState.TheVariants.{Free, Setup, Running}
 use Rattle.pcm_desk.specs.Device.{DeviceSeen, IsDevice, seen}
-use Rattle.pcm_desk.specs.Desk.{capturing, record_rate_at}
+use Rattle.pcm_desk.specs.Channels.{capturing, record_rate_at}
 use Rattle.pcm_desk.specs.Openings.{ring_bytes}
 use Rattle.pcm_desk.specs.RecordBooks.{captured, captured_in, captures, coming, is_running, keeping, record_fill_of, record_free_of}
 use Rattle.pcm_desk.specs.RecordSafe.{RecordIsSafe}

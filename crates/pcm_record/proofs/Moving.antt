@@ -21,7 +21,7 @@ use Rattle.pcm_oss.specs.Replies.{bytes_due}
 use Rattle.pcm_desk.specs.declared.record_book.RecordBook.{RecordBook}
 use Rattle.pcm_desk.specs.declared.turn.Turn.{Turn}
 use Rattle.pcm_desk.specs.Device.{DeviceSeen, IsDevice, record_rate_between, seen}
-use Rattle.pcm_desk.specs.Desk.{record_rate_at}
+use Rattle.pcm_desk.specs.Channels.{record_rate_at}
 use Rattle.pcm_desk.specs.RecordBooks.{is_record_free, is_record_setup, is_running, read_turn, record_fill_of}
 use Rattle.pcm_desk.specs.RecordRequests.{record_ask}
 use Rattle.pcm_desk.specs.RecordSafe.{IsRecordUnstarted, RecordIsSafe}

@@ -16,7 +16,8 @@ use Rattle.pcm_chain.specs.Pushes.{HasRecorded}
 use Rattle.pcm_desk.specs.declared.record_book.RecordBook.{RecordBook}
 use Rattle.pcm_desk.specs.declared.device.Device.{Device}
 use Rattle.pcm_desk.specs.Device.{seen}
-use Rattle.pcm_desk.specs.Desk.{record_rate_at, record_unopened}
+use Rattle.pcm_desk.specs.Channels.{record_rate_at}
+use Rattle.pcm_desk.specs.Desk.{record_unopened}
 use Rattle.pcm_desk.specs.RecordBooks.{is_record_free, keeping}
 use Rattle.pcm_sound.specs.Given.{recorded_bytes}
 use Rattle.pcm_oss.specs.declared.event.Way.TheVariants.{Record}

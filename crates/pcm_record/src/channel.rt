@@ -15,7 +15,7 @@ ghost use Rattle.pcm_desk.specs.RecordSafe.{RecordIsSafe};
 ghost use Rattle.pcm_desk.proofs.Props.{record_props};
 ghost use Rattle.pcm_path.specs.Paths.{path_rate, HasBoxes, Serves};
 ghost use Rattle.std.proofs.Props.{props};
-ghost use Rattle.pcm_desk.specs.Desk.{capturing};
+ghost use Rattle.pcm_desk.specs.Channels.{capturing};
 
 use pcm_desk::{Device, RecordBook, RecordState};
 use pcm_feeder::{Feeder, RackOf, Tables};

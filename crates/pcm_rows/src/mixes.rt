@@ -3,7 +3,7 @@
 
 ghost use Rattle.std.specs.Prelude.{◌≡◌, ◌+◌, ◌∷◌, ◌++◌, [], pos, replicate, take, true, ℕ};
 ghost use Rattle.pcm_format.specs.declared.layout.Layout.TheVariants.{One, Two, Six};
-ghost use Rattle.pcm_desk.specs.Desk.{mixed_by};
+ghost use Rattle.pcm_desk.specs.Channels.{mixed_by};
 ghost use Rattle.pcm_desk.specs.Device.{DeviceSeen, is_straight, mixed_for, parent_plan, play_plan_between, record_plan_between};
 ghost use Rattle.pcm_desk.specs.Usual.{usual_device, usual_settings};
 ghost use Rattle.pcm_feeder.specs.declared.stage.Spec.TheVariants.{Matrix, Linear};

@@ -3,7 +3,8 @@
 
 ghost use Rattle.std.specs.Prelude.{◌≡◌};
 ghost use Rattle.pcm_oss.specs.declared.event.Way.TheVariants.{Play};
-ghost use Rattle.pcm_desk.specs.OwnEvents.{channel_begun, own_events, own_replies, replies_to};
+ghost use Rattle.pcm_desk.specs.Channels.{channel_begun};
+ghost use Rattle.pcm_desk.specs.OwnEvents.{own_events, own_replies, replies_to};
 ghost use Rattle.pcm_desk.specs.Usual.{usual_device, usual_settings};
 ghost use Rattle.pcm_rows.specs.OwnRows.{among_others, by_itself, desk_of_one, its_events, its_replies};
 

@@ -1,4 +1,4 @@
--- The number of a slot fits what a caller is told.
+-- The number of a slot fits the number that a caller gets.
 use Rattle.std.proofs.Common.{◌≡◌, ℕ, ◌<◌, ◌≤◌, ◌^◌, Some, None, length, refl, sym, subst, arith}
 use Rattle.std.specs.Prelude.{Option, option_map}
 use Rattle.std.proofs.lemmas.List.{length-map}
@@ -6,7 +6,8 @@ use Rattle.pcm_fixed.proofs.Items.{items-count}
 use Rattle.pcm_oss.specs.declared.event.Way.{Way}
 use Rattle.pcm_oss.specs.declared.event.Way.TheVariants.{Play, Record, Map}
 use Rattle.pcm_desk.specs.declared.device.Held.{Held}
-use Rattle.pcm_desk.specs.Desk.{by_way, held_by, slot_number}
+use Rattle.pcm_desk.specs.Channels.{by_way}
+use Rattle.pcm_desk.specs.Desk.{held_by, slot_number}
 use Rattle.pcm_play.specs.declared.channel.PlayChannelOf.{PlayChannelOf}
 use Rattle.pcm_vchan.specs.Parents.{play_channels}
 use Rattle.pcm_engine.specs.declared.engine.EngineOf.{EngineOf}

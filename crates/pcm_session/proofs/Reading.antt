@@ -8,7 +8,8 @@ use Rattle.pcm_feeder.specs.Kept.{Kept}
 use Rattle.pcm_numbers.specs.Devices.{◌>>=◌}
 use Rattle.pcm_desk.specs.declared.device.Held.{Held}
 use Rattle.pcm_desk.specs.declared.limits.TheConstants.{READ_BYTES}
-use Rattle.pcm_desk.specs.Desk.{by_way, held_by}
+use Rattle.pcm_desk.specs.Channels.{by_way}
+use Rattle.pcm_desk.specs.Desk.{held_by}
 use Rattle.pcm_engine.specs.declared.engine.EngineOf.{EngineOf}
 use Rattle.pcm_engine.specs.Engines.{desk_of, waiting_in}
 use Rattle.pcm_engine.specs.Steps.{front_taken}

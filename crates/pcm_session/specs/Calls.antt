@@ -1,4 +1,4 @@
--- What a call in numbers comes to: a step, and a number for its reply.
+-- The outcome of a call in numbers: a step, and a number for its reply.
 use Rattle.std.specs.Prelude.{◌≡◌, ℕ, ℤ, pos, if◌then◌else◌, Bool, true, false, List, [], ◌++◌, length, take, drop, min, Option, Some, None, is_some, Result, Ok, Err}
 use Rattle.std.specs.Bool.{OnTrue, OnFalse}
 use Rattle.pcm_oss.specs.declared.event.Event.{Event}
@@ -47,7 +47,7 @@ abbrev pub numbers_beside : Result Answer Errno → AnswerNumbers → AnswerNumb
 numbers_beside (Ok answer) numbers = answer_numbers answer
 numbers_beside (Err errno) numbers = numbers
 
--- whether an engine takes an event, if there is one, with so many bytes and samples and so much room
+-- whether an engine takes an event, if there is one, with this many bytes and samples and this room
 abbrev pub is_asked : {B : Type 0} → EngineOf B → Option Event → ℕ → ℕ → ℕ → Bool
 is_asked engine None bytes samples room = false
 is_asked engine (Some event) bytes samples room = is_taken (device_of engine) engine.parent.handed event bytes samples room
@@ -62,17 +62,17 @@ abbrev pub IsStepOf : {B : Type 0} → (B → Kept) → Option Event → List �
 IsStepOf kept None bytes samples old new told handed = ⊥
 IsStepOf kept (Some event) bytes samples old new told handed = IsCallStep kept event bytes samples old new told handed
 
--- A call with these bytes, samples and room takes the step on its event, and hands these bytes over. Where there is no event, or the engine
--- doesn't take it, nothing of the session changes.
+-- A call with these bytes, samples and room takes the step on its event, and gives these bytes to the device. Where there is no event, or
+-- the engine doesn't take it, nothing of the session changes.
 pub record Takes {B : Type 0} (kept : B → Kept) (event : Option Event) (bytes : List ℕ) (samples : List ℤ) (room : ℕ) (handed : List ℕ) (old new : SessionOf B) : Type 0 where
   pub step : OnTrue (is_asked old.engine event (length bytes) (length samples) room) (IsStepOf kept event bytes samples old.engine new.engine new.reply handed)
   pub same : OnFalse (is_asked old.engine event (length bytes) (length samples) room) (new ≡ old)
 
--- so one that comes with bytes at most, and hands none over
+-- one that comes with bytes at most, and gives none to the device
 abbrev pub MakesCall : {B : Type 0} → (B → Kept) → Option Event → List ℕ → SessionOf B → SessionOf B → Type 0
 MakesCall kept event bytes old new = Takes kept event bytes [] 0 [] old new
 
--- how many bytes an interrupt hands over, with so many samples and so much room
+-- how many bytes an interrupt gives to the device, with this many samples and this room
 abbrev pub handed_count : {B : Type 0} → SessionOf B → ℕ → ℕ → ℕ → ℕ
 handed_count session frames samples room =
     if is_asked session.engine (Some (Intr frames)) 0 samples room then bytes_handed (device_of session.engine) (Intr frames) else 0

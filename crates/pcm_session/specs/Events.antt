@@ -1,4 +1,4 @@
--- The events of calls in numbers. Where the numbers are none, there is no event.
+-- The events of calls in numbers. Where the numbers name none, there is no event.
 use Rattle.std.specs.Prelude.{ℕ, ◌^◌, if◌then◌else◌, min, nat_lt, Option, Some, None}
 use Rattle.pcm_oss.specs.declared.event.Event.{Event}
 use Rattle.pcm_oss.specs.declared.event.Event.TheVariants.{Open, Write, Poke, Read, Ioctl, Join, StartGroup, Close, Mixer}

@@ -1,4 +1,4 @@
--- What calls one after another come to: the run of a script that has the same events.
+-- The outcome of calls one after another: the run of a script that has the same events.
 use Rattle.std.specs.Prelude.{◌≡◌, ℕ, ℤ, List, [], ◌∷◌, ◌++◌, map}
 use Rattle.std.specs.List.{flat_map}
 use Rattle.pcm_oss.specs.declared.event.Event.{Event}
@@ -34,7 +34,7 @@ CallsLead kept pool [] [] old new = new ≡ old
 CallsLead kept pool (call ∷ calls) (event ∷ events) old new = Next kept pool old call event (λ between. CallsLead kept pool calls events between new)
 CallsLead kept pool calls events old new = ⊥
 
--- The calls are the run of these events behind those before: the replies are those of the script, and so are the bytes.
+-- The calls are the run of these events after those before: the replies are those of the script, and so are the bytes.
 pub record RunsAs {B : Type 0} (kept : B → Kept) (pool : Pool) (before events : List Event) (calls : List CallMade) (old new : EngineOf B) : Type 0 where
   pub stands : Stands kept new pool (before ++ events)
   pub replies_are : map (λ call. call.told) calls ≡ replies (device_of old) pool (story_of (device_of old) pool before) events

@@ -29,7 +29,7 @@ is_allowed device (StartGroup fd group) = is_descriptor fd
 is_allowed device (Intr frames) = nat_lt 0 frames && nat_le frames (ring_frames device)
 is_allowed device event = names_descriptor (descriptor_of event)
 
--- so many bytes are those that it names, and so many samples are whole frames, and no more than it captures
+-- as many bytes come as it names, and the samples are whole frames, and no more than it captures
 abbrev pub has_right : DeviceSeen → Event → ℕ → ℕ → Bool
 has_right device event bytes samples =
     is_allowed device event
@@ -37,7 +37,7 @@ has_right device event bytes samples =
     && nat_le samples (samples_asked (device_settings device).layout event)
     && samples % channels_of (device_settings device).layout == 0
 
--- where so many frames were handed over, as many are left as an event hands over
+-- once the device has been given `handed` frames, as many are left as an event gives to it
 abbrev pub is_left : ℕ → Event → Bool
 is_left handed event = nat_le (handed + frames_taken event) LIFE
 
@@ -49,7 +49,7 @@ frames_left handed = LIFE - handed
 abbrev pub unheard_room : DeviceSeen → ℕ
 unheard_room device = ring_frames device * device_frame_bytes device
 
--- an event comes with what it brings, its frames are left, and there is room for what it hands over
+-- an event comes with what it brings, its frames are left, and there is room for the bytes that it gives to the device
 abbrev pub is_taken : DeviceSeen → ℕ → Event → ℕ → ℕ → ℕ → Bool
 is_taken device handed event bytes samples room = has_right device event bytes samples && is_left handed event && nat_le (bytes_handed device event) room
 

@@ -19,7 +19,7 @@ use pcm_numbers::{
 };
 use pcm_oss::{Answer, Errno, Event};
 
-/// Opens a descriptor with such frames. Answers the number of its slot. Frames that no channel can have are refused as the requests for them are.
+/// Opens a descriptor; settings that no channel can have are refused as the requests for them are. Answers the number of its slot.
 pub fn open<B: Feeder>(
     session: &mut SessionOf<B>,
     fd: u32,
@@ -90,7 +90,7 @@ pub fn close<B: Feeder>(session: &mut SessionOf<B>, fd: u32) -> i32
     count_of(session, event_for_close(fd), &[])
 }
 
-/// Asks something of the channel of a descriptor. What is asked comes into `answer`.
+/// Asks something of the channel of a descriptor. The answer is put into `answer`.
 pub fn ioctl<B: Feeder>(
     session: &mut SessionOf<B>,
     fd: u32,
@@ -110,7 +110,7 @@ pub fn ioctl<B: Feeder>(
     done_beside(session, event_for_ioctl(fd, request, argument), answer)
 }
 
-/// Makes a descriptor a member of a group. The number of the group comes into `answer`.
+/// Makes a descriptor a member of a group. The number of the group is put into `answer`.
 pub fn join<B: Feeder>(
     session: &mut SessionOf<B>,
     fd: u32,
@@ -128,7 +128,7 @@ pub fn join<B: Feeder>(
     done_beside(session, event_for_join(fd, group), answer)
 }
 
-/// Asks something of the mixer device. What is asked comes into `answer`.
+/// Asks something of the mixer device. The answer is put into `answer`.
 pub fn ask_mixer<B: Feeder>(
     session: &mut SessionOf<B>,
     request: u32,
@@ -168,8 +168,8 @@ pub fn read<B: Feeder>(session: &mut SessionOf<B>, fd: u32, out: &mut [u8]) -> i
     }
 }
 
-/// The device takes so many frames, and brings what it captured meanwhile: samples at 32 bits, behind which is silence. Answers how many
-/// bytes were handed over: they stand at the front of `out`, and the rest of it stays.
+/// The device takes `frames` frames, and brings what it captured meanwhile: samples at 32 bits, followed by silence. Answers how many bytes
+/// the device was given: they stand at the front of `out`, and the rest of it stays.
 pub fn interrupt<B: Feeder>(
     session: &mut SessionOf<B>,
     frames: u32,
@@ -189,7 +189,7 @@ pub fn interrupt<B: Feeder>(
     }
 }
 
-/// The device takes so many frames, as by `interrupt`, and nobody hears them: there is no room for what is handed over. Answers how many bytes
+/// The device takes `frames` frames, as by `interrupt`, and nobody hears them: there is no room for their bytes. Answers how many bytes
 /// these were.
 pub fn discard<B: Feeder>(session: &mut SessionOf<B>, frames: u32, samples: &[i32]) -> i32
     requires ready { AreReady B.kind B.kept session.old.engine }

@@ -1,4 +1,4 @@
-//! The events of calls in numbers. Where the numbers are none, there is no event.
+//! The events of calls in numbers. Where the numbers name none, there is no event.
 
 ghost use Rattle.std.specs.Prelude.{◌≡◌};
 ghost use Rattle.pcm_session.specs.Events.{event_for_close, descriptor_from, event_for_ioctl, event_for_join, length_from, event_for_mixer, event_for_open, event_for_poke, event_for_read, event_for_start, event_for_write};

@@ -12,7 +12,7 @@ pub fn sessions_run_scripts<B: Feeder>()
     ensures { RunScripts B.kept }
 {}
 
-/// How many frames a session hands over at most.
+/// How many frames a session gives to the device at most.
 pub fn life_of_a_session()
     ensures life { LIFE ≡ 70368744177664 }
 {}

@@ -17,7 +17,7 @@ use pcm_numbers::{
 use pcm_oss::Way;
 use pcm_status::{ChannelStatus, RunState, SlotState, SlotStatus};
 
-/// How the channel of a descriptor is, in numbers.
+/// The status of the channel of a descriptor, in numbers.
 #[repr(C)]
 #[derive(Clone, Copy, Debug, PartialEq, Eq)]
 pub struct SettingsNumbers {
@@ -42,18 +42,18 @@ pub struct SettingsNumbers {
     pub state: u32,
 }
 
-/// How a slot is, in numbers.
+/// The status of a slot, in numbers.
 #[repr(C)]
 #[derive(Clone, Copy, Debug, PartialEq, Eq)]
 pub struct SlotNumbers {
-    /// 0 free, 1 held, 2 draining behind a close.
+    /// 0 free, 1 held, 2 draining after a close.
     pub state: u32,
     /// How many frames of the mix it still gives.
     pub frames: u64,
 }
 
 impl<B: Feeder> SessionOf<B> {
-    /// How the channel of a descriptor is.
+    /// The status of the channel of a descriptor.
     ///
     /// # Errors
     ///
@@ -69,8 +69,8 @@ impl<B: Feeder> SessionOf<B> {
         }
     }
 
-    /// What a request of the channel of a descriptor would be answered now. A position that is told so isn't the one from which the next
-    /// counts fragments, and no shortage is forgotten.
+    /// What a request of the channel of a descriptor would be answered now. The next position still counts fragments from the one answered
+    /// before, and no shortage is forgotten.
     ///
     /// # Errors
     ///
@@ -89,7 +89,7 @@ impl<B: Feeder> SessionOf<B> {
         }
     }
 
-    /// How a slot is, by the number of its way and its own.
+    /// The status of a slot, by the number of its way and its own.
     ///
     /// # Errors
     ///
@@ -129,7 +129,7 @@ impl<B: Feeder> SessionOf<B> {
         Ok(ready_bits(writable, readable))
     }
 
-    /// After how many frames that are handed over a write of so many bytes is taken whole, or so many can be read, if nothing else happens.
+    /// After how many frames of the device a write of `bytes` bytes is taken whole, or as many can be read, if nothing else happens.
     ///
     /// # Errors
     ///

@@ -20,12 +20,12 @@ use pcm_numbers::CallFault;
 use pcm_oss::{Answer, Errno, Event, ReplyBuf};
 use std::alloc::{AllocError, Global};
 
-/// An engine, with the reply to its last call.
+/// An engine, with the reply to the last call.
 #[derive(Drop)]
 pub struct SessionOf<B> {
     pub(crate) engine: EngineOf<B>,
     reply: ReplyBuf,
-    // what an interrupt hands over that nobody hears
+    // the device's bytes of an interrupt that nobody hears
     unheard: Fixed<u8>,
     ghost room: { fixed_len unheard ≡ unheard_room (device_of engine) },
 }
@@ -59,13 +59,13 @@ impl<B: Feeder> SessionOf<B> {
     }
 
     /// Takes one step on an event: with its bytes, if it is a write or a poke, and with what is captured, if it is an interrupt: samples at 32 bits,
-    /// channel by channel, frame by frame, behind which is silence. Returns how many device bytes it handed over: they stand at the front of
+    /// channel by channel, frame by frame, followed by silence. Returns how many bytes the device was given: they stand at the front of
     /// `out`, and the rest of `out` stays. Takes no memory.
     ///
     /// # Errors
     ///
     /// `Argument` where a number is outside its limits, or the event came with other bytes than it names, or with more samples than it captures
-    /// or a part of a frame. `Worn` where the engine doesn't hand over as many frames any more, and `Room` where `out` is too small. Nothing has changed then.
+    /// or a part of a frame. `Worn` where the engine has fewer frames left, and `Room` where `out` is too small. Nothing has changed then.
     pub fn step(
         &mut self,
         event: &Event,
@@ -96,7 +96,7 @@ impl<B: Feeder> SessionOf<B> {
         Ok(count)
     }
 
-    /// Takes one step as `step` does, and lets go what it hands over: nobody hears it. Returns how many device bytes these were.
+    /// Takes one step as `step` does, and drops the bytes for the device: nobody hears them. Returns how many they were.
     ///
     /// # Errors
     ///
@@ -151,7 +151,7 @@ impl<B: Feeder> SessionOf<B> {
         room.len()
     }
 
-    // Whether the engine can take an event with so many bytes and samples, and with so much room.
+    // Whether the engine can take an event with this many bytes and samples, and with this room.
     fn takes(&self, event: &Event, bytes: usize, samples: usize, room: usize) -> bool
         ensures { result ≡ is_taken (device_of self.now.engine) self.now.engine.parent.handed event.now bytes samples room }
     {
@@ -184,7 +184,7 @@ impl<B: Feeder> SessionOf<B> {
             && samples % device.settings.layout.channels() == 0
     }
 
-    /// How many frames the engine still hands over.
+    /// How many frames the engine can still give to the device.
     pub fn frames_left(&self) -> u64
         ensures { result ≡ frames_left self.now.engine.parent.handed }
     {
@@ -192,7 +192,7 @@ impl<B: Feeder> SessionOf<B> {
     }
 }
 
-// Whether the frames are left that an event hands over, where so many were handed over before.
+// Whether the frames are left that an event gives to the device, once it has been given `handed`.
 fn is_left(handed: u64, event: &Event) -> bool
     requires { handed ≤ LIFE }
     ensures { result ≡ is_left handed event.now }

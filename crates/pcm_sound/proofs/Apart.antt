@@ -20,7 +20,8 @@ use Rattle.pcm_desk.specs.declared.map_book.MapBook.{MapBook}
 use Rattle.pcm_desk.specs.Device.{DeviceSeen, IsDevice, mix_settings, mixed_slots}
 use Rattle.pcm_desk.specs.PlayBooks.{is_started}
 use Rattle.pcm_desk.specs.MapBooks.{is_map_running}
-use Rattle.pcm_desk.specs.Desk.{Desk, after, map_at, mixed_by, play_at}
+use Rattle.pcm_desk.specs.Channels.{mixed_by}
+use Rattle.pcm_desk.specs.Desk.{Desk, after, map_at, play_at}
 use Rattle.pcm_desk.specs.Events.{Fits, frames_taken}
 use Rattle.pcm_sound.specs.Given.{given_frame}
 use Rattle.pcm_sound.specs.Gains.{Faders, last_gain, slot_gain_at}
@@ -144,7 +145,7 @@ placed_others : (device : DeviceSeen) (mixed : ℕ) (book : PlayBook) (runs : Li
 placed_others device mixed book [] p = tt
 placed_others device mixed book (run ∷ runs) p = p.0
 
--- nothing is told of them
+-- an event marks none of them
 unmarked_others : (device : DeviceSeen) (mixed position : ℕ) (event : Event) (old new : PlayBook) (runs : List Run) → OthersAreOver device mixed (marking position event old new runs) → OthersAreOver device mixed runs
 unmarked_others device mixed position event old new [] over = tt
 unmarked_others device mixed position event old new (run ∷ runs) over = over
@@ -426,7 +427,7 @@ mix-of-all device pool events position d fit =
     sums_alike device story.faders (all_by_pieces device story) (table_of device story) position
     (λ slot. heard_alone device (last_gain (mixed_gains device story slot) position) position (mixed_runs device story slot) ((mixed_apart device pool events slot d fit).pieces position))
 
--- be it told by their spans
+-- by their spans too
 pub plain-of-all : (device : DeviceSeen) (pool : Pool) (events : List Event) (position : ℕ) → IsDevice device → All (Fits device pool) events
     → let story : Story = story_of device pool events in
     sum_of_all device story.faders (all_by_spans device story) position ≡ sum_at device (faded_table device story.faders (plain_table device story)) position

@@ -1,5 +1,5 @@
 -- The areas of a story: their sizes, what a poke leaves, and what is taken next.
-use Rattle.std.proofs.Common.{◌≡◌, ℕ, suc, zero, ◌+◌, ◌*◌, ◌%◌, ◌^◌, ◌≤◌, Bool, true, false, cond, eqb, List, [], ◌∷◌, ◌++◌, length, map, take, drop, get_or, Option, Some, None, Result, Ok, inl, inr, refl, sym, ap, ◌∙◌, subst, arith, length-append, length-take, length-drop}
+use Rattle.std.proofs.Common.{◌≡◌, ℕ, suc, zero, ◌+◌, ◌*◌, ◌%◌, ◌^◌, ◌≤◌, Bool, true, false, cond, eqb, List, [], ◌∷◌, ◌++◌, length, map, take, drop, get_or, Option, Some, Result, Ok, refl, sym, ap, ◌∙◌, subst, arith, length-append, length-take, length-drop}
 use Rattle.std.specs.Prelude.{IsOk, nat_le, nat_lt, not, ◌&&◌, ◌||◌}
 use Rattle.std.specs.List.{range_with_len}
 use Rattle.std.proofs.lemmas.Bool.{eqb-true, not-false, or_parts}
@@ -8,8 +8,7 @@ use Rattle.pcm_format.specs.Formats.{code_of}
 use Rattle.pcm_format.specs.Layouts.{channels_of}
 use Rattle.pcm_oss.specs.declared.event.Event.{Event}
 use Rattle.pcm_oss.specs.declared.event.Event.TheVariants.{Open, Write, Poke, Read, Ioctl, Join, StartGroup, Close, Mixer, Intr}
-use Rattle.pcm_oss.specs.declared.event.Way.{Way}
-use Rattle.pcm_oss.specs.declared.event.Way.TheVariants.{Play, Record, Map}
+use Rattle.pcm_oss.specs.declared.event.Way.TheVariants.{Map}
 use Rattle.pcm_oss.specs.declared.reply.Answer.{Answer}
 use Rattle.pcm_oss.specs.declared.reply.Answer.TheVariants.{Pointer}
 use Rattle.pcm_oss.specs.declared.reply.Errno.{Errno}
@@ -24,17 +23,19 @@ use Rattle.pcm_desk.specs.declared.opening.Opening.{Opening}
 use Rattle.pcm_desk.specs.declared.turn.Turn.{Turn}
 use Rattle.pcm_desk.specs.BookTurns.{doing, refused}
 use Rattle.pcm_desk.specs.Device.{DeviceSeen, map_slots}
-use Rattle.pcm_desk.specs.MapBooks.{is_map_free, is_map_running, poke_turn, taken_of}
+use Rattle.pcm_desk.specs.MapBooks.{is_map_free, is_map_running, taken_of}
 use Rattle.pcm_desk.specs.MapRequests.{map_ask}
 use Rattle.pcm_desk.specs.Openings.{ring_bytes}
-use Rattle.pcm_desk.specs.Desk.{Desk, after, held_by, map_at, map_turn, map_unopened, poke_on}
+use Rattle.pcm_desk.specs.Desk.{Desk, after, channel_turn, held_by, map_at, map_unopened}
 use Rattle.pcm_desk.proofs.Refused.{poke-kept}
-use Rattle.pcm_desk.proofs.Slots.{map_at-with}
 use Rattle.pcm_sound.specs.Areas.{area_after, holds_map, is_recut, poked, silences, silent_area, silent_byte, written_by}
 use Rattle.pcm_sound.specs.MapRuns.{map_marking, map_stopped, mapped_run, area_taken}
 use Rattle.pcm_sound.specs.Story.{Story, story_at_start, story_of, told, told_all}
 use Rattle.pcm_sound.proofs.MapSlots.{length-area_bytes}
 use Rattle.pcm_sound.proofs.Stories.{get_or-same, length-bytes_at}
+use Rattle.pcm_desk.proofs.After.{channel-after, mapped_or}
+use Rattle.pcm_desk.proofs.Channels.{channel_named}
+use Rattle.pcm_desk.specs.Channels.{Channel}
 
 -- ---- sizes
 
@@ -66,7 +67,7 @@ length-written pool desk (Close fd) slot area = refl
 length-written pool desk (Mixer request) slot area = refl
 length-written pool desk (Intr n) slot area = refl
 
--- an opening that isn't cut anew has as many bytes as before
+-- an opening with the same format, channels and fragments has as many bytes as before
 uncut : (old new : Opening) → is_recut old new ≡ false → ring_bytes old ≡ ring_bytes new
 uncut old new e =
     let formats : Bool = not (eqb (code_of old.settings.format) (code_of new.settings.format)) in
@@ -107,23 +108,9 @@ areas-sized device pool events slot =
 
 -- it leaves the book of each slot
 poked_book : (device : DeviceSeen) (desk : Desk) (fd offset at count slot : ℕ) → map_at device (after device desk (Poke fd offset at count)).desk slot ≡ map_at device desk slot
-poked_book device desk fd offset at count slot = by (held_by desk fd)
-  where
-    at_slot : (mine : ℕ) → map_at device (map_turn device (poke_turn offset count) desk mine).desk slot ≡ map_at device desk slot
-    at_slot mine =
-        elim (map_at-with device desk mine slot (poke_turn offset count (map_at device desk mine)).book) [
-          | inl here ↦ here.1 ∙ poke-kept offset count (map_at device desk mine) ∙ ap (map_at device desk) (sym here.0)
-          | inr same ↦ same
-        ]
-
-    by : (held : Option Held) → map_at device (poke_on device held desk offset count).desk slot ≡ map_at device desk slot
-    by None = refl
-    by (Some held) = way held.way held.slot
-      where
-        way : (w : Way) (mine : ℕ) → map_at device (poke_on device (Some (record { way = w; slot = mine })) desk offset count).desk slot ≡ map_at device desk slot
-        way Play mine = refl
-        way Record mine = refl
-        way Map mine = at_slot mine
+poked_book device desk fd offset at count slot =
+    let old : MapBook = map_at device desk slot in
+    channel-after device desk (Poke fd offset at count) (channel_named Map slot) (λ (c : Channel). mapped_or old c ≡ old) refl (poke-kept offset count old) (λ k way settings is same free. cc) (λ k group is member. cc)
 
 -- and all that was taken
 pub poke-takes-nothing : (device : DeviceSeen) (pool : Pool) (story : Story) (fd offset at count slot : ℕ) → (told device pool story (Poke fd offset at count)).map_runs slot ≡ story.map_runs slot
@@ -137,7 +124,7 @@ poke-takes-nothing device pool story fd offset at count slot =
 
 -- ---- what is taken next
 
--- the first of the bytes that are taken next stands at the pointer that is told
+-- the first of the bytes that are taken next stands at the pointer that is answered
 pub next-at-pointer : (device : DeviceSeen) (n : ℕ) (book : MapBook) (area rest : List ℕ) (first bytes blocks ptr : ℕ) → length area ≡ ring_bytes book.opening → area_taken device n book area ≡ first ∷ rest
     → (map_ask GetOPtr book).reply ≡ Ok (Pointer bytes blocks ptr) → first ≡ get_or area ptr 0
 next-at-pointer device n book area rest first bytes blocks ptr size taken told =
@@ -203,7 +190,7 @@ poke-writes device pool events fd offset at count slot held has ok =
     long = length-bytes_at pool Inline at count has
 
     accepted : offset + count ≤ ring_bytes old.opening
-    accepted = within_of (nat_lt (ring_bytes old.opening) (offset + count)) offset count old refl (subst (λ (h : Option Held). IsOk (poke_on device h story.desk offset count).reply) held ok)
+    accepted = within_of (nat_lt (ring_bytes old.opening) (offset + count)) offset count old refl (subst (λ (h : Option Held). IsOk (channel_turn device story.desk (Poke fd offset at count) h).reply) held ok)
 
     fits : nat_le (offset + length bytes) (length area) ≡ true
     fits = let size = areas-sized device pool events slot in let n = long in let within = accepted in grind (arith, nat_tests)

@@ -15,10 +15,11 @@ use Rattle.pcm_desk.specs.declared.device.Held.{Held}
 use Rattle.pcm_desk.specs.declared.map_book.MapBook.{MapBook}
 use Rattle.pcm_desk.specs.Device.{DeviceSeen}
 use Rattle.pcm_desk.specs.MapBooks.{map_begun}
-use Rattle.pcm_desk.specs.Desk.{Desk, after, held_by, join_on, map_at}
+use Rattle.pcm_desk.specs.Channels.{Channel, Mapped, channel_begun, own_turn, ungrouped}
+use Rattle.pcm_desk.specs.Desk.{Desk, after, channel_at, held_by, map_at, channel_turn}
+use Rattle.pcm_desk.specs.Own.{HoldApart}
+use Rattle.pcm_desk.specs.OwnEvents.{Opens, closes, concerns, joins, own_events, unnamed}
 use Rattle.pcm_desk.specs.Events.{frames_taken}
-use Rattle.pcm_desk.specs.Own.{Channel, HoldApart, Mapped, channel_at, own_turn, ungrouped}
-use Rattle.pcm_desk.specs.OwnEvents.{Opens, channel_begun, closes, concerns, joins, own_events, unnamed}
 use Rattle.pcm_desk.proofs.Apart.{apart-after}
 use Rattle.pcm_desk.proofs.OwnEvents.{IsMine, IsOther, begun-own, mine-turns, other-stays}
 use Rattle.pcm_desk.proofs.Turning.{handed-taken}
@@ -69,7 +70,7 @@ others_write pool desk _ fd slot area other h m = refl
 
 -- a mapped channel joins no group
 joins_none : (device : DeviceSeen) (desk : Desk) (event : Event) (fd slot : ℕ) → held_by desk fd ≡ Some (mapped_slot slot) → joins fd event ≡ true → IsErr (after device desk event).reply
-joins_none device desk (Join at group) fd slot m own = subst (λ (h : Option Held). IsErr (join_on device h desk group).reply) (sym (ap (held_by desk) (eqb-true at fd own) ∙ m)) refl
+joins_none device desk (Join at group) fd slot m own = subst (λ (h : Option Held). IsErr (channel_turn device desk (Join at group) h).reply) (sym (ap (held_by desk) (eqb-true at fd own) ∙ m)) refl
 joins_none device desk _ fd slot m own = cc
 
 -- ---- a list of events
@@ -78,7 +79,7 @@ joins_none device desk _ fd slot m own = cc
 abbrev along : DeviceSeen → Pool → Story → ℕ → ℕ → List Event → List ℕ
 along device pool story fd slot events = area_along device story.desk.handed (channel_at device story.desk (mapped_slot slot)) (story.areas slot) (own_events fd events) (own_pokes pool fd events)
 
--- one event, and those behind it
+-- one event, and those after it
 along_step : (device : DeviceSeen) (pool : Pool) (story : Story) (event : Event) (events : List Event) (fd slot : ℕ) (own closing : Bool) → concerns fd event ≡ own → closes fd event ≡ closing → closing ≡ false → HoldApart story.desk
     → held_by story.desk fd ≡ Some (mapped_slot slot) → let new : Story = told device pool story event in
     (held_by new.desk fd ≡ Some (mapped_slot slot) → (told_all device pool new events).areas slot ≡ along device pool new fd slot events)

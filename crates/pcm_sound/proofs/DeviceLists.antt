@@ -31,7 +31,8 @@ use Rattle.pcm_mix.proofs.Blocks.{length-mixed}
 use Rattle.pcm_mixdev.specs.Mixers.{master_gain, slot_gain}
 use Rattle.pcm_mixdev.proofs.FadedFrames.{length-at_gain}
 use Rattle.pcm_desk.specs.Device.{DeviceSeen, IsDevice, device_frame_bytes, device_settings, filters_of, full_frame, mix_settings, mixed_for, parent_plan, mixed_slots, parent_rate, play_plan_between, ring_frames}
-use Rattle.pcm_desk.specs.Desk.{after, mixed_by}
+use Rattle.pcm_desk.specs.Channels.{mixed_by}
+use Rattle.pcm_desk.specs.Desk.{after}
 use Rattle.pcm_plan.specs.Plans.{PlanSeen}
 use Rattle.pcm_plan.specs.Through.{recs}
 use Rattle.pcm_plan.proofs.Through.{length-out, length-outs, outs-add, outs-append, outs-channels}
@@ -128,7 +129,7 @@ device_frames-later device mix handed n d =
     ∙ ap (λ list. recs plan tables list 0 handed) (mixed_frames-more device mix count q)
     ∙ outs-append plan tables unity front more 0 handed (parent-plan-fits device d) (omega (arith, allowed))
 
--- more frames handed over
+-- the device is given more frames
 pub device_list-more : (device : DeviceSeen) (faders : Faders) (table : Table) (handed n : ℕ) → IsDevice device
     → device_list device faders table (handed + n) ≡ device_list device faders table handed ++ device_frames device (mix_at device faders table) (handed + n) handed n
 device_list-more device faders table handed n d =
@@ -273,7 +274,7 @@ length-device_bytes device story v =
     length-spelled_frames device (device_list device story.faders (table_of device story) story.desk.handed) (device_list-frames device story.faders (table_of device story) story.desk.handed v.limits (table-frames device story v))
     ∙ ap (λ n. n * device_frame_bytes device) (length-device_list device story.faders (table_of device story) story.desk.handed)
 
--- what was handed over is the front of them
+-- what the device has been given is the front of them
 pub device_body-bytes : (device : DeviceSeen) (story : Story) → StoryIsValid device story → device_body device story ≡ take (story.desk.handed * device_frame_bytes device) (device_bytes device story)
 device_body-bytes device story v =
     spelled_frames-take device story.desk.handed (device_list device story.faders (table_of device story) story.desk.handed)
@@ -318,7 +319,7 @@ mixed_frames-told device pool story event v =
     let new : Story = told device pool story event in
     mixed_frames-same device new.faders (table_of device new) story.faders (table_of device story) (mixed_for device story.desk.handed) (agree-before device pool story event v)
 
--- an interrupt makes its frames behind those that were made before
+-- an interrupt makes its frames after those that were made before
 pub device_bytes-interrupt : (device : DeviceSeen) (pool : Pool) (story : Story) (n : ℕ) → StoryIsValid device story
     → device_bytes device (told device pool story (Intr n)) ≡ device_bytes device story ++ flat_map (spelled (device_settings device).format) (new_block device pool story n)
 device_bytes-interrupt device pool story n v =

@@ -137,7 +137,7 @@ given-rest rate mix_rate here request book safe rests =
 pub given-close : (rate : Rate) (here : Here) (book : PlayBook) → KeepsGiven rate false book (close_turn rate here book)
 given-close rate here book = given_left rate false book (close_turn rate here book) (close-leaves rate here book) (whole_close rate here book)
 
--- frames that are handed over
+-- a hand-over
 pub given-settled : (rate : Rate) (passed : ℤ) (book : PlayBook) → KeepsGiven rate false book (play_settled rate passed book)
 given-settled rate passed book = given_left rate false book (play_settled rate passed book) (settle-leaves rate passed book) (settle_at book.state rate passed false book)
 

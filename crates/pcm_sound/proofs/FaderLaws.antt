@@ -46,7 +46,7 @@ mixer-next device pool events request slot position d fit later =
 
 -- ---- what stays
 
--- a run of which nothing new is told
+-- a run that drained already, or doesn't drain, keeps that mark
 drained_same : (drained draining : Bool) → (draining ≡ true → drained ≡ true) → (drained || draining || false) ≡ drained
 drained_same true draining is = refl
 drained_same false true is = absurd (let clash : false ≡ true = is refl in cc)

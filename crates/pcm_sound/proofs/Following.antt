@@ -1,14 +1,13 @@
 -- What a channel that records stands for, through every event: the bytes that its book counts of its recording, and the frames.
-use Rattle.std.proofs.Common.{◌≡◌, ℕ, ◌+◌, ◌-◌, ◌≤◌, Bool, true, false, cond, eqb, List, ◌++◌, take, min, Option, Some, None, Ok, Err, inl, inr, refl, sym, ap, ◌∙◌, subst, arith}
+use Rattle.std.proofs.Common.{◌≡◌, ℕ, ◌+◌, ◌-◌, ◌≤◌, Bool, true, false, cond, eqb, List, ◌++◌, take, min, Ok, Err, inl, inr, refl, sym, ap, ◌∙◌, subst, arith}
 use Rattle.std.specs.Prelude.{nat_lt, not, ◌&&◌}
 use Rattle.std.proofs.lemmas.List.{take-take, take_all}
 use Rattle.std.proofs.lemmas.List.FromFn.{length-map-range_with_len, take-map-range_with_len}
 use Rattle.pcm_oss.specs.declared.event.Event.{Event}
 use Rattle.pcm_oss.specs.declared.event.Event.TheVariants.{Open, Write, Poke, Read, Ioctl, Join, StartGroup, Close, Mixer, Intr}
-use Rattle.pcm_oss.specs.declared.event.Way.{Way}
-use Rattle.pcm_oss.specs.declared.event.Way.TheVariants.{Play, Record, Map}
+use Rattle.pcm_oss.specs.declared.event.Way.TheVariants.{Record}
 use Rattle.pcm_oss.specs.declared.reply.Answer.TheVariants.{Got}
-use Rattle.pcm_oss.specs.declared.reply.Errno.TheVariants.{Again, Inval}
+use Rattle.pcm_oss.specs.declared.reply.Errno.TheVariants.{Again}
 use Rattle.pcm_wave.specs.declared.pool.Pool.{Pool}
 use Rattle.pcm_wave.specs.Pools.{captured_frame, captured_frames}
 use Rattle.pcm_format.specs.declared.layout.Layout.{Layout}
@@ -18,14 +17,14 @@ use Rattle.pcm_rate.specs.Rates.{can}
 use Rattle.pcm_rate.proofs.Counts.{len_grows}
 use Rattle.pcm_feeder.specs.Limits.{IsRate}
 use Rattle.pcm_desk.specs.declared.turn.Turn.{Turn}
-use Rattle.pcm_desk.specs.declared.device.Held.{Held}
 use Rattle.pcm_desk.specs.declared.record_book.RecordBook.{RecordBook}
 use Rattle.pcm_desk.specs.declared.record_book.RecordState.{RecordState}
 use Rattle.pcm_desk.specs.declared.record_book.RecordState.TheVariants.{Free, Setup, Running}
 use Rattle.pcm_desk.specs.Device.{DeviceSeen, IsDevice, device_settings}
-use Rattle.pcm_desk.specs.RecordBooks.{captured_in, captures, is_running, keeping, read_turn, record_fill_of}
+use Rattle.pcm_desk.specs.RecordBooks.{captured_in, captures, is_running, keeping, record_fill_of}
 use Rattle.pcm_desk.specs.RecordSafe.{IsRecordUnstarted, RecordIsSafe}
-use Rattle.pcm_desk.specs.Desk.{Desk, after, by_way, capturing, held_by, read_on, record_at, record_rate_at, record_turn, refusing}
+use Rattle.pcm_desk.specs.Channels.{capturing, record_rate_at, Channel}
+use Rattle.pcm_desk.specs.Desk.{Desk, after, record_at}
 use Rattle.pcm_desk.proofs.Ratios.{record-ratio-between}
 use Rattle.pcm_desk.specs.Events.{Fits, frames_taken}
 use Rattle.pcm_sound.specs.Given.{recorded_bytes}
@@ -34,8 +33,9 @@ use Rattle.pcm_sound.specs.Recordings.{Recording, handing, recorded_frames, reco
 use Rattle.pcm_sound.specs.Story.{Story}
 use Rattle.pcm_sound.specs.Valid.{IsRecorded, RecordingIsValid, RecordingsAreValid}
 use Rattle.pcm_sound.proofs.Recordings.{captured-add, recorded-captured}
-use Rattle.pcm_sound.proofs.Recorded.{AllTurned, Turned, all-closing, all-join, all-mixer, all-open, all-poke, all-request, all-start, all-write, idle-unstarted}
-use Rattle.pcm_desk.proofs.Slots.{record_at-with}
+use Rattle.pcm_sound.proofs.Recorded.{AllTurned, Turned, idle-unstarted, all-turned}
+use Rattle.pcm_desk.proofs.After.{channel-after, recording_or}
+use Rattle.pcm_desk.proofs.Channels.{channel_named}
 
 -- the bytes of a recording that its book counts
 abbrev pub bytes_in : RecordBook → Recording → List ℕ
@@ -98,26 +98,13 @@ read_turned : (device : DeviceSeen) (pool : Pool) (handed count : ℕ) (empty : 
 read_turned device pool handed count true book recording = follows-read device pool handed book.read book recording
 read_turned device pool handed count false book recording = follows-read device pool handed (book.read + min count (record_fill_of book)) book recording
 
-read_at : (device : DeviceSeen) (pool : Pool) (desk : Desk) (fd count at slot : ℕ) (recording : Recording) → FollowsAt device pool desk (Read fd count) (record_turn device (read_turn count) desk at).desk slot recording
-read_at device pool desk fd count at slot recording =
+read_follows : (device : DeviceSeen) (pool : Pool) (desk : Desk) (fd count slot : ℕ) (recording : Recording) → FollowsAt device pool desk (Read fd count) (after device desk (Read fd count)).desk slot recording
+read_follows device pool desk fd count slot recording =
     let old : RecordBook = record_at device desk slot in
-    let book : RecordBook = (read_turn count (record_at device desk at)).book in
-    let FollowFrom : RecordBook → Type 0 = λ new. Follows device pool old new recording (recording_after device pool desk (Read fd count) old new recording) in
-    elim (record_at-with device desk at slot book) [
-      | inl here ↦ subst FollowFrom (sym here.1)
-          (subst (λ (k : ℕ). FollowFrom (read_turn count (record_at device desk k)).book) here.0
-          (read_turned device pool desk.handed count (nat_lt 0 count && eqb (record_fill_of old) 0) old recording))
-      | inr same ↦ subst FollowFrom (sym same) (follows-read device pool desk.handed old.read old recording)
-    ]
-
-read_follows : (device : DeviceSeen) (pool : Pool) (held : Option Held) (desk : Desk) (fd count slot : ℕ) (recording : Recording) → FollowsAt device pool desk (Read fd count) (read_on device held desk count).desk slot recording
-read_follows device pool None desk fd count slot recording = follows-read device pool desk.handed (record_at device desk slot).read (record_at device desk slot) recording
-read_follows device pool (Some held) desk fd count slot recording =
-    elim held.way as (λ (way : Way). FollowsAt device pool desk (Read fd count) (by_way way (refusing desk Inval) (record_turn device (read_turn count) desk held.slot) (refusing desk Inval)).desk slot recording) [
-      | Play ↦ follows-read device pool desk.handed (record_at device desk slot).read (record_at device desk slot) recording
-      | Record ↦ read_at device pool desk fd count held.slot slot recording
-      | Map ↦ follows-read device pool desk.handed (record_at device desk slot).read (record_at device desk slot) recording
-    ]
+    channel-after device desk (Read fd count) (channel_named Record slot)
+    (λ (c : Channel). Follows device pool old (recording_or old c) recording (recording_after device pool desk (Read fd count) old (recording_or old c) recording))
+    (follows-read device pool desk.handed old.read old recording) (read_turned device pool desk.handed count (nat_lt 0 count && eqb (record_fill_of old) 0) old recording)
+    (λ at way settings is same free. cc) (λ at group is member. cc)
 
 turned_follows : (device : DeviceSeen) (pool : Pool) (story : Story) (new : Desk) (slot : ℕ) → AllTurned device story.desk new → RecordingsAreValid device pool story
     → Follows device pool (record_at device story.desk slot) (record_at device new slot) (story.recordings slot) (cond (starts_recording (record_at device story.desk slot) (record_at device new slot)) (recording_from story.desk.handed) (story.recordings slot))
@@ -127,20 +114,20 @@ turned_follows device pool story new slot turned v =
 -- an event that takes no frames leaves the first bytes and the first frames of each recording
 pub recording-follows : (device : DeviceSeen) (pool : Pool) (story : Story) (event : Event) (slot : ℕ) → Fits device pool event → frames_taken event ≡ 0 → RecordingsAreValid device pool story
     → FollowsAt device pool story.desk event (after device story.desk event).desk slot (story.recordings slot)
-recording-follows device pool story (Open fd way settings) slot fits none v = turned_follows device pool story (after device story.desk (Open fd way settings)).desk slot (all-open device story.desk fd way settings fits.1) v
-recording-follows device pool story (Write fd source at count) slot fits none v = turned_follows device pool story (after device story.desk (Write fd source at count)).desk slot (all-write device (held_by story.desk fd) story.desk count) v
-recording-follows device pool story (Poke fd offset at count) slot fits none v = turned_follows device pool story (after device story.desk (Poke fd offset at count)).desk slot (all-poke device (held_by story.desk fd) story.desk offset count) v
-recording-follows device pool story (Read fd count) slot fits none v = read_follows device pool (held_by story.desk fd) story.desk fd count slot (story.recordings slot)
-recording-follows device pool story (Ioctl fd request) slot fits none v = turned_follows device pool story (after device story.desk (Ioctl fd request)).desk slot (all-request device (held_by story.desk fd) story.desk request) v
-recording-follows device pool story (Join fd group) slot fits none v = turned_follows device pool story (after device story.desk (Join fd group)).desk slot (all-join device (held_by story.desk fd) story.desk group) v
-recording-follows device pool story (StartGroup fd group) slot fits none v = turned_follows device pool story (after device story.desk (StartGroup fd group)).desk slot (all-start device (held_by story.desk fd) story.desk group) v
-recording-follows device pool story (Close fd) slot fits none v = turned_follows device pool story (after device story.desk (Close fd)).desk slot (all-closing device (held_by story.desk fd) story.desk fd) v
-recording-follows device pool story (Mixer request) slot fits none v = turned_follows device pool story (after device story.desk (Mixer request)).desk slot (all-mixer device story.desk request) v
+recording-follows device pool story (Open fd way settings) slot fits none v = turned_follows device pool story (after device story.desk (Open fd way settings)).desk slot (all-turned device pool story.desk (Open fd way settings) fits tt) v
+recording-follows device pool story (Write fd source at count) slot fits none v = turned_follows device pool story (after device story.desk (Write fd source at count)).desk slot (all-turned device pool story.desk (Write fd source at count) fits tt) v
+recording-follows device pool story (Poke fd offset at count) slot fits none v = turned_follows device pool story (after device story.desk (Poke fd offset at count)).desk slot (all-turned device pool story.desk (Poke fd offset at count) fits tt) v
+recording-follows device pool story (Read fd count) slot fits none v = read_follows device pool story.desk fd count slot (story.recordings slot)
+recording-follows device pool story (Ioctl fd request) slot fits none v = turned_follows device pool story (after device story.desk (Ioctl fd request)).desk slot (all-turned device pool story.desk (Ioctl fd request) fits tt) v
+recording-follows device pool story (Join fd group) slot fits none v = turned_follows device pool story (after device story.desk (Join fd group)).desk slot (all-turned device pool story.desk (Join fd group) fits tt) v
+recording-follows device pool story (StartGroup fd group) slot fits none v = turned_follows device pool story (after device story.desk (StartGroup fd group)).desk slot (all-turned device pool story.desk (StartGroup fd group) fits tt) v
+recording-follows device pool story (Close fd) slot fits none v = turned_follows device pool story (after device story.desk (Close fd)).desk slot (all-turned device pool story.desk (Close fd) fits tt) v
+recording-follows device pool story (Mixer request) slot fits none v = turned_follows device pool story (after device story.desk (Mixer request)).desk slot (all-turned device pool story.desk (Mixer request) fits tt) v
 recording-follows device pool story (Intr n) slot fits none v = absurd (let some = fits.0 in omega arith)
 
 -- ---- an interrupt
 
--- what an interrupt leaves of a slot: what it keeps behind the bytes, and what was captured behind the frames
+-- what an interrupt leaves of a slot: what it keeps after the bytes, and what was captured after the frames
 pub record Hears (device : DeviceSeen) (pool : Pool) (handed n : ℕ) (old new : RecordBook) (before now : Recording) : Type 0 where
   pub bytes : bytes_in new now ≡ take new.kept (bytes_in old before
       ++ recorded_bytes device old.opening.settings (frames_of_book device pool old before ++ captured_frames (device_settings device).layout pool handed n) old.given (keeping (record_rate_at device old) n old))

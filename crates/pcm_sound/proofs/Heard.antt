@@ -15,7 +15,7 @@ use Rattle.pcm_desk.specs.declared.map_book.MapBook.{MapBook}
 use Rattle.pcm_desk.specs.PlayBooks.{is_started}
 use Rattle.pcm_desk.specs.MapBooks.{is_map_running}
 use Rattle.pcm_desk.specs.PlaySafe.{PlayIsSafe}
-use Rattle.pcm_desk.specs.Desk.{play_rate_at}
+use Rattle.pcm_desk.specs.Channels.{play_rate_at}
 use Rattle.pcm_desk.proofs.Ratios.{ratio-between}
 use Rattle.pcm_sound.specs.Given.{given_frame}
 use Rattle.pcm_sound.specs.Runs.{Piece, Run, covers, first_of, piece_frame, run_frames, sounding}
@@ -30,7 +30,7 @@ use Rattle.pcm_sound.proofs.Places.{given-lasts, lasts-newest}
 piece_place : (start p : ℕ) (piece : Piece) → covers p piece ≡ true → (0 < piece.count → piece.position ≡ start + piece.index) → piece.position ≡ start + piece.index
 piece_place start p piece e at = at (grind (arith, nat_tests))
 
--- and covers none before its first frame and behind its last
+-- and covers none before its first frame or after its last
 piece_outside : (start p : ℕ) (piece : Piece) → (p < start + piece.index) ⊎ (start + (piece.index + piece.count) ≤ p) → (0 < piece.count → piece.position ≡ start + piece.index) → covers p piece ≡ false
 piece_outside start p piece out at =
     elim (cases_lt 0 piece.count) [
@@ -38,7 +38,7 @@ piece_outside start p piece out at =
       | inr none ↦ grind (arith, nat_tests)
     ]
 
--- they cover nothing before their first frame and behind their last
+-- they cover nothing before their first frame or after their last
 follow_outside : (start count p : ℕ) (pieces : List Piece) → (p < start) ⊎ (start + count ≤ p) → FollowFrom start count pieces → find (covers p) pieces ≡ None
 follow_outside start count p [] out f = refl
 follow_outside start count p (piece ∷ pieces) (inl before) f =
@@ -119,7 +119,7 @@ over_from_heard device mixed run (Some start) over unbroken =
 over_heard : (device : DeviceSeen) (mixed : ℕ) (run : Run) → IsOver device mixed run → RunIsHeard device mixed run
 over_heard device mixed run over = λ unbroken. over_from_heard device mixed run run.start over unbroken
 
--- a run that goes on ends behind all that was given, whether more is to come or it has given all
+-- a run that goes on ends after all that was given, whether more is to come or it has given all
 going_end : (drained : Bool) (dropped : Option ℕ) (start lasts given mixed : ℕ) → dropped ≡ None → given ≤ lasts → start + given ≤ mixed → ((drained ≡ true → given < lasts) → start + given ≡ mixed)
     → min (cond drained (start + lasts) mixed) (min (drop_end mixed dropped) mixed) ≡ start + given
 going_end true None start lasts given mixed d most past next =
@@ -259,7 +259,7 @@ heard-in_place device mixed run h unbroken = record {
 
 -- ---- the frames of a slot
 
--- the frame of a piece is as far into the stream of its run as its place tells
+-- the frame of a piece is as far into the stream of its run as its place says
 piece_frame-place : (device : DeviceSeen) (gain : Gain) (settings : Settings) (frames : List Frame) (p : ℕ) (found : Option Piece)
     → piece_frame device gain settings frames p found ≡ option_map (λ k. given_frame device settings frames k gain) (option_map (place_of p) found)
 piece_frame-place device gain settings frames p None = refl
@@ -327,7 +327,7 @@ span_earlier device gain until mixed p run (Some start) later earlier h g same =
     ∙ ap (λ (other : Option Frame). cond (is_heard device until run start p) (Some (f (span_from device until run start))) other) same
     ∙ sym (first-span f device until p start run earlier)
 
--- what the spans of a slot give at a position is told by any later one
+-- what the spans of a slot give at a position, those at any later one give too
 pub spans-earlier : (device : DeviceSeen) (gain : Gain) (until mixed p : ℕ) (runs : List Run) → p < until → until ≤ mixed
     → option_map (span_frame device gain p) (span_at (spans_of device mixed runs) p) ≡ option_map (span_frame device gain p) (span_at (spans_of device until runs) p)
 spans-earlier device gain until mixed p [] h g = refl

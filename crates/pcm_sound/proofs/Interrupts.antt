@@ -11,7 +11,7 @@ use Rattle.pcm_desk.specs.declared.play_book.PlayState.TheVariants.{Free, Setup,
 use Rattle.pcm_desk.specs.Device.{DeviceSeen, IsDevice, passed_for}
 use Rattle.pcm_desk.specs.PlayBooks.{giving, is_draining, is_started, play_settled_in, refilled}
 use Rattle.pcm_desk.specs.PlaySafe.{PlayIsSafe}
-use Rattle.pcm_desk.specs.Desk.{mixing, play_rate_at, settling}
+use Rattle.pcm_desk.specs.Channels.{mixing, play_rate_at, settling}
 use Rattle.pcm_sound.specs.Runs.{Piece, Run, piece_of, playing, marking}
 use Rattle.pcm_sound.specs.Plain.{IsUnbroken, lasting}
 use Rattle.pcm_sound.specs.Places.{IsOver, IsGoing, SlotIsPlaced}
@@ -125,7 +125,7 @@ placed-mixing device mixed zero book runs v p =
     (subst (λ (m : ℕ). SlotIsPlaced device m book runs) (sym (add-zero mixed)) p)
 placed-mixing device mixed (suc n) book runs v p = placed_refilled_at book.state device mixed (suc n) book runs (omega arith) v p
 
--- ---- the frames that are handed over
+-- ---- the frames that the device is given
 
 -- a mark of an interrupt, which starts nothing, has no place
 told_anywhere : (before after draining : Bool) (position later : ℕ) (run : Run) → (before ≡ false → after ≡ false) → told_run before after draining false position run ≡ told_run before after draining false later run
@@ -148,7 +148,7 @@ settled_stopped Primed rate passed book e = refl
 settled_stopped Running rate passed book e = cc
 settled_stopped (Draining closed) rate passed book e = cc
 
--- the pieces of a slot stay in their places through an interrupt that mixes n frames, once so many were handed over
+-- the pieces of a slot stay in their places through an interrupt that mixes n frames, once the device has been given `handed` frames
 pub placed-passing : (device : DeviceSeen) (mixed n handed frames : ℕ) (book : PlayBook) (runs : List Run) → IsDevice device → SlotIsValid device mixed book runs → SlotIsPlaced device mixed book runs
     → let between : PlayBook = mixing device mixed n book in
     let new : PlayBook = settling device handed between in

@@ -20,7 +20,7 @@ use Rattle.pcm_desk.specs.Device.{DeviceSeen, IsDevice, play_rate_between}
 use Rattle.pcm_desk.specs.MapBooks.{is_map_running, is_map_setup, map_begun, map_closed, map_gives, map_refilled_in, poke_turn, taken_of}
 use Rattle.pcm_desk.specs.MapRequests.{map_ask}
 use Rattle.pcm_desk.specs.MapSafe.{IsMapInOrder, MapIsSafe}
-use Rattle.pcm_desk.specs.Desk.{map_mixing, map_rate_at}
+use Rattle.pcm_desk.specs.Channels.{map_mixing, map_rate_at}
 use Rattle.pcm_desk.proofs.MapAsking.{map-asked-kept, map-asked-rate}
 use Rattle.pcm_desk.proofs.MapLeaves.{map-asked-leaves}
 use Rattle.pcm_desk.proofs.MapSafe.{map-safe-asked, map-safe-begun, map-safe-closed, map-safe-refilled}
@@ -107,7 +107,7 @@ keeps-asked device request book = record {
 
 -- ---- a run starts, goes on or stops
 
--- what the runs are told, by whether the book ran and runs
+-- how the runs are marked, by whether the book ran and runs
 abbrev marked_by : Bool → Bool → ℕ → MapBook → List Run → List Run
 marked_by was is position new runs =
     cond (not was && is) (mapped_run position new ∷ runs) (cond (was && not is) (map_stopped position runs) runs)
@@ -271,7 +271,7 @@ idle_valid device mixed n book area runs off v =
       whole = v.whole;
     })
 
--- so many bytes of an area
+-- the length of a part of an area
 pub length-area_bytes : {X : Type 0} (g : ℕ → X) (from count : ℕ) → length (map g (range_with_len from count)) ≡ count
 length-area_bytes g from zero = refl
 length-area_bytes g from (suc count) = ap suc (length-area_bytes g (from + 1) count)

@@ -1,34 +1,27 @@
 -- A story keeps its mapped slots valid through every event that fits, and what they gave stays as it was.
-use Rattle.std.proofs.Common.{◌≡◌, ℕ, suc, zero, ◌+◌, ◌<◌, Bool, true, false, cond, List, [], ◌∷◌, get_or, Option, Some, None, inl, inr, refl, sym, ap, ◌∙◌, subst, arith}
-use Rattle.std.specs.Prelude.{find, is_some, not, nat_lt, ◌&&◌}
+use Rattle.std.proofs.Common.{◌≡◌, ℕ, suc, zero, ◌+◌, ◌<◌, Bool, true, false, cond, List, [], ◌∷◌, Option, Some, None, refl, sym, ap, ◌∙◌, subst, arith, Result, Ok, Err}
+use Rattle.std.specs.Prelude.{find, not, nat_lt, ◌&&◌}
 use Rattle.std.proofs.lemmas.List.Elements.{All-head, All-nil}
-use Rattle.pcm_format.specs.declared.settings.Settings.{Settings}
 use Rattle.pcm_oss.specs.declared.event.Event.{Event}
 use Rattle.pcm_oss.specs.declared.event.Event.TheVariants.{Open, Write, Poke, Read, Ioctl, Join, StartGroup, Close, Mixer, Intr}
 use Rattle.pcm_oss.specs.declared.event.Way.{Way}
-use Rattle.pcm_oss.specs.declared.event.Way.TheVariants.{Play, Record, Map}
+use Rattle.pcm_oss.specs.declared.event.Way.TheVariants.{Map}
 use Rattle.pcm_oss.specs.declared.request.Request.{Request}
 use Rattle.pcm_oss.specs.declared.request.Request.TheVariants.{SetTrigger}
-use Rattle.pcm_oss.specs.declared.reply.Errno.TheVariants.{Exist, Inval}
 use Rattle.pcm_oss.proofs.Limits.{usual-fragments}
 use Rattle.pcm_wave.specs.declared.pool.Pool.{Pool}
 use Rattle.pcm_feeder.specs.declared.stage.Gain.{Gain}
-use Rattle.pcm_feeder.specs.Limits.{IsRate}
 use Rattle.pcm_desk.specs.declared.device.Held.{Held}
 use Rattle.pcm_desk.specs.declared.map_book.MapBook.{MapBook}
 use Rattle.pcm_desk.specs.declared.map_book.MapState.{MapState}
 use Rattle.pcm_desk.specs.declared.map_book.MapState.TheVariants.{Free, Setup, Running}
-use Rattle.pcm_desk.specs.Device.{DeviceSeen, IsDevice}
-use Rattle.pcm_desk.specs.MapBooks.{is_map_running, map_begun, map_closed, map_refilled_in, poke_turn}
-use Rattle.pcm_desk.specs.MapRequests.{map_ask}
-use Rattle.pcm_desk.specs.Desk.{Desk, DeskTurn, after, asking, by_way, close_map, close_on, close_play, close_record, desk_here, held_by, ioctl_on, least_free_map, least_free_play, least_free_record, left, map_at, map_mixing, map_rate_at, map_turn, map_unopened, mixed_by, open_map, open_play, open_record, open_turn, play_turn, record_turn, refusing, turning, with_map}
-use Rattle.pcm_desk.specs.PlayBooks.{write_turn}
-use Rattle.pcm_desk.specs.RecordBooks as records
-use Rattle.pcm_desk.specs.RecordRequests.{record_ask}
+use Rattle.pcm_desk.specs.Device.{DeviceSeen, IsDevice, here_at}
+use Rattle.pcm_desk.specs.MapBooks.{is_map_running, map_refilled_in}
+use Rattle.pcm_desk.specs.Channels.{map_mixing, map_rate_at, mixed_by, own_request, own_join, own_turn, Grouping, Mapped, Channel, channel_begun, member_refusal}
+use Rattle.pcm_desk.specs.Desk.{Desk, after, map_at, map_unopened, grouping_at}
 use Rattle.pcm_desk.specs.Events.{Fits, frames_taken}
-use Rattle.pcm_desk.proofs.Grouping.{by-asking, by-joining, by-starting}
 use Rattle.pcm_desk.proofs.MapSafe.{map-safe-unstarted}
-use Rattle.pcm_desk.proofs.Slots.{map_at-passing, map_at-with}
+use Rattle.pcm_desk.proofs.Slots.{map_at-passing}
 use Rattle.pcm_sound.specs.Runs.{Piece, Run, covers, first_of, piece_frame, run_frames, sounding}
 use Rattle.pcm_sound.specs.MapRuns.{map_carrying, map_marking, map_piece, map_played, map_playing, map_stopped, mapped_run, area_taken}
 use Rattle.pcm_sound.specs.Plain.{IsUnbroken}
@@ -36,6 +29,10 @@ use Rattle.pcm_sound.specs.Story.{Story}
 use Rattle.pcm_sound.specs.Valid.{HasRate, MapIsValid, RunIsValid}
 use Rattle.pcm_sound.proofs.MapSlots.{Keeps, keeps-asked, keeps-begun, keeps-closed, keeps-poked, keeps-same, map-mixed}
 use Rattle.pcm_sound.proofs.Sounding.{covers_not-ahead, open-pieces, piece_frame-append}
+use Rattle.pcm_desk.proofs.After.{channel-after, mapped_or}
+use Rattle.pcm_desk.proofs.Channels.{channel_named}
+use Rattle.pcm_oss.specs.declared.reply.Errno.{Errno}
+use Rattle.pcm_desk.specs.declared.here.Here.{Here}
 
 -- ---- what an event that mixes nothing leaves of the books
 
@@ -43,89 +40,41 @@ use Rattle.pcm_sound.proofs.Sounding.{covers_not-ahead, open-pieces, piece_frame
 abbrev pub KeepsMaps : DeviceSeen → Desk → Desk → Type 0
 KeepsMaps device old new = (slot : ℕ) → Keeps device (map_at device old slot) (map_at device new slot)
 
-stays : (device : DeviceSeen) (desk : Desk) → KeepsMaps device desk desk
-stays device desk slot = keeps-same device (map_at device desk slot)
+-- a request, which may be refused to a member of a group
+requested : (device : DeviceSeen) (here : Here) (request : Request) (refusal : Option Errno) (book : MapBook) → Keeps device book (mapped_or book (own_request device here request refusal (Mapped book)).book)
+requested device here request None book = keeps-asked device request book
+requested device here request (Some errno) book = keeps-same device book
 
--- one book is set
-keeps_with : (device : DeviceSeen) (desk : Desk) (at : ℕ) (book : MapBook) → Keeps device (map_at device desk at) book → KeepsMaps device desk (with_map desk at book)
-keeps_with device desk at book k slot =
-    elim (map_at-with device desk at slot book) [
-      | inl here ↦ subst (Keeps device (map_at device desk slot)) (sym here.1) (subst (λ (s : ℕ). Keeps device (map_at device desk s) book) (sym here.0) k)
-      | inr same ↦ subst (Keeps device (map_at device desk slot)) (sym same) (keeps-same device (map_at device desk slot))
-    ]
+joined : (device : DeviceSeen) (here : Here) (result : Result ℕ Errno) (book : MapBook) → Keeps device book (mapped_or book (own_join device here result (Mapped book)).book)
+joined device here (Ok group) book = keeps-asked device (SetTrigger 0) book
+joined device here (Err errno) book = keeps-same device book
 
--- an open, which may find no free slot, or is refused
-opens_play : (device : DeviceSeen) (found : Option ℕ) (desk : Desk) (fd : ℕ) (settings : Settings) → KeepsMaps device desk (open_play found desk fd settings).desk
-opens_play device None desk fd settings = stays device desk
-opens_play device (Some at) desk fd settings = stays device desk
-
-opens_record : (device : DeviceSeen) (found : Option ℕ) (desk : Desk) (fd : ℕ) (settings : Settings) → KeepsMaps device desk (open_record found desk fd settings).desk
-opens_record device None desk fd settings = stays device desk
-opens_record device (Some at) desk fd settings = stays device desk
-
-opens_map : (device : DeviceSeen) (found : Option ℕ) (desk : Desk) (fd : ℕ) (settings : Settings) → IsRate settings.rate → KeepsMaps device desk (open_map found desk fd settings).desk
-opens_map device None desk fd settings rate = stays device desk
-opens_map device (Some at) desk fd settings rate = keeps_with device desk at (map_begun settings) (keeps-begun device (map_at device desk at) settings rate)
-
-abbrev open_way : Desk → ℕ → Way → Settings → DeskTurn
-open_way desk fd way settings =
-    by_way way (open_play (least_free_play desk.play) desk fd settings) (open_record (least_free_record desk.recording) desk fd settings) (open_map (least_free_map desk.mapped) desk fd settings)
-
-opens_way : (device : DeviceSeen) (desk : Desk) (fd : ℕ) (way : Way) (settings : Settings) → IsRate settings.rate → KeepsMaps device desk (open_way desk fd way settings).desk
-opens_way device desk fd Play settings rate = opens_play device (least_free_play desk.play) desk fd settings
-opens_way device desk fd Record settings rate = opens_record device (least_free_record desk.recording) desk fd settings
-opens_way device desk fd Map settings rate = opens_map device (least_free_map desk.mapped) desk fd settings rate
-
-opens : (device : DeviceSeen) (desk : Desk) (fd : ℕ) (way : Way) (settings : Settings) → IsRate settings.rate → KeepsMaps device desk (open_turn desk fd way settings).desk
-opens device desk fd way settings rate =
-    elim (is_some (held_by desk fd)) as (λ (b : Bool). KeepsMaps device desk (cond {A = DeskTurn} b (refusing desk Exist) (open_way desk fd way settings)).desk) [
-      | true ↦ stays device desk
-      | false ↦ opens_way device desk fd way settings rate
-    ]
-
--- an event of a descriptor, which may change a mapped channel alone
-turns : (device : DeviceSeen) (desk : Desk) (play recording mapped : ℕ → DeskTurn) (held : Option Held) → ((slot : ℕ) → (play slot).desk.mapped ≡ desk.mapped) → ((slot : ℕ) → (recording slot).desk.mapped ≡ desk.mapped)
-    → ((slot : ℕ) → KeepsMaps device desk (mapped slot).desk) → KeepsMaps device desk (turning play recording mapped held desk).desk
-turns device desk play recording mapped None p r m = stays device desk
-turns device desk play recording mapped (Some held) p r m =
-    elim held.way as (λ (way : Way). KeepsMaps device desk (by_way way (play held.slot) (recording held.slot) (mapped held.slot)).desk) [
-      | Play ↦ same_books device desk (play held.slot).desk (p held.slot)
-      | Record ↦ same_books device desk (recording held.slot).desk (r held.slot)
-      | Map ↦ m held.slot
-    ]
-  where
-    same_books : (device : DeviceSeen) (old new : Desk) → new.mapped ≡ old.mapped → KeepsMaps device old new
-    same_books device old new same slot = subst (λ (books : List MapBook). Keeps device (map_at device old slot) (get_or books slot (map_unopened device))) (sym same) (keeps-same device (map_at device old slot))
-
-asks : (device : DeviceSeen) (desk : Desk) (held : Option Held) (request : Request) → KeepsMaps device desk (ioctl_on device held desk request).desk
-asks device desk held request =
-    turns device desk (play_turn device (asking device (desk_here device desk) request) desk) (record_turn device (record_ask request) desk) (map_turn device (map_ask request) desk) held (λ slot. refl) (λ slot. refl)
-    (λ slot. keeps_with device desk slot (map_ask request (map_at device desk slot)).book (keeps-asked device request (map_at device desk slot)))
-
-closes : (device : DeviceSeen) (desk : Desk) (held : Option Held) (fd : ℕ) → KeepsMaps device desk (close_on device held desk fd).desk
-closes device desk held fd =
-    turns device desk (close_play device desk fd) (close_record device desk fd) (close_map device desk fd) held (λ slot. refl) (λ slot. refl)
-    (λ slot. keeps_with device desk slot (map_closed (map_at device desk slot)) (keeps-closed device (map_at device desk slot)))
+-- the turn of a mapped channel
+turn_keeps : (device : DeviceSeen) (pool : Pool) (handed : ℕ) (grouping : Grouping) (event : Event) (book : MapBook) → Fits device pool event → frames_taken event ≡ 0
+    → Keeps device book (mapped_or book (own_turn device handed grouping event (Mapped book)).book)
+turn_keeps device pool handed grouping (Open fd way settings) book fits none = keeps-same device book
+turn_keeps device pool handed grouping (Write fd source at count) book fits none = keeps-same device book
+turn_keeps device pool handed grouping (Poke fd offset at count) book fits none = keeps-poked device offset count book
+turn_keeps device pool handed grouping (Read fd count) book fits none = keeps-same device book
+turn_keeps device pool handed grouping (Ioctl fd request) book fits none = requested device (here_at device handed) request (member_refusal grouping.member request) book
+turn_keeps device pool handed grouping (Join fd group) book fits none = joined device (here_at device handed) (grouping.joins group) book
+turn_keeps device pool handed grouping (StartGroup fd group) book fits none = keeps-same device book
+turn_keeps device pool handed grouping (Close fd) book fits none = keeps-closed device book
+turn_keeps device pool handed grouping (Mixer request) book fits none = keeps-same device book
+turn_keeps device pool handed grouping (Intr n) book fits none = absurd (let some = fits.0 in omega arith)
 
 -- any event but an interrupt
 pub keeps-maps : (device : DeviceSeen) (pool : Pool) (desk : Desk) (event : Event) → Fits device pool event → frames_taken event ≡ 0 → KeepsMaps device desk (after device desk event).desk
-keeps-maps device pool desk (Open fd way settings) fits none = opens device desk fd way settings fits.1
-keeps-maps device pool desk (Write fd source at count) fits none =
-    turns device desk (play_turn device (write_turn (desk_here device desk) count) desk) (λ slot. refusing desk Inval) (λ slot. refusing desk Inval) (held_by desk fd) (λ slot. refl) (λ slot. refl) (λ slot. stays device desk)
-keeps-maps device pool desk (Poke fd offset at count) fits none =
-    turns device desk (λ slot. refusing desk Inval) (λ slot. refusing desk Inval) (map_turn device (poke_turn offset count) desk) (held_by desk fd) (λ slot. refl) (λ slot. refl)
-    (λ slot. keeps_with device desk slot (poke_turn offset count (map_at device desk slot)).book (keeps-poked device offset count (map_at device desk slot)))
-keeps-maps device pool desk (Read fd count) fits none =
-    turns device desk (λ slot. refusing desk Inval) (record_turn device (records.read_turn count) desk) (λ slot. refusing desk Inval) (held_by desk fd) (λ slot. refl) (λ slot. refl) (λ slot. stays device desk)
-keeps-maps device pool desk (Ioctl fd request) fits none =
-    by-asking device (KeepsMaps device desk) (held_by desk fd) desk request (stays device desk) (λ groups. asks device (record desk { groups = groups }) (held_by desk fd) request)
-keeps-maps device pool desk (Join fd group) fits none =
-    by-joining device (λ (t : DeskTurn). KeepsMaps device desk t.desk) (held_by desk fd) desk group (λ errno. stays device desk) (λ mine number e resting. asks device desk (Some mine) (SetTrigger 0))
-keeps-maps device pool desk (StartGroup fd group) fits none =
-    by-starting device (λ (t : DeskTurn). KeepsMaps device desk t.desk) (held_by desk fd) desk group (λ errno. stays device desk) (λ used ready. stays device desk)
-keeps-maps device pool desk (Close fd) fits none = closes device (left (held_by desk fd) desk) (held_by desk fd) fd
-keeps-maps device pool desk (Mixer request) fits none = stays device desk
-keeps-maps device pool desk (Intr n) fits none = absurd (let some = fits.0 in omega arith)
+keeps-maps device pool desk event fits none slot =
+    channel-after device desk event mine (λ (c : Channel). Keeps device old (mapped_or old c)) (keeps-same device old) (turn_keeps device pool desk.handed (grouping_at device desk mine) event old fits none)
+    (λ fd way settings is same free. subst (λ (w : Way). Keeps device old (mapped_or old (channel_begun w settings))) same (keeps-begun device old settings (subst (Fits device pool) is fits).1))
+    (λ fd group is member. keeps-same device old)
+  where
+    mine : Held
+    mine = channel_named Map slot
+
+    old : MapBook
+    old = map_at device desk slot
 
 -- ---- the slots
 
@@ -139,7 +88,7 @@ pub map_mixing-runs : (device : DeviceSeen) (n : ℕ) (book : MapBook) → is_ma
 map_mixing-runs device zero book = refl
 map_mixing-runs device (suc n) book = runs_on book.state device (suc n) book
 
--- so it tells the runs nothing besides
+-- so it marks no run besides
 pub map_marking-same : (position : ℕ) (old new : MapBook) (runs : List Run) → is_map_running new.state ≡ is_map_running old.state → map_marking position old new runs ≡ runs
 map_marking-same position old new runs same = at (is_map_running old.state) (is_map_running new.state) same
   where

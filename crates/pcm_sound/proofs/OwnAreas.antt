@@ -1,18 +1,14 @@
 -- An event changes at most the area of the channel that its descriptor holds, which goes by its own book and the bytes that its pokes bring.
-use Rattle.std.proofs.Common.{◌≡◌, ◌≢◌, ℕ, suc, zero, ◌<◌, Bool, true, false, cond, eqb, List, [], ◌∷◌, length, set, get_or, Option, Some, None, refl, sym, ap, ◌∙◌, subst, arith}
+use Rattle.std.proofs.Common.{◌≡◌, ◌≢◌, ℕ, suc, zero, ◌<◌, Bool, true, false, cond, eqb, List, [], ◌∷◌, length, Option, Some, None, refl, sym, ap, ◌∙◌, subst, arith}
 use Rattle.std.specs.Prelude.{not, ◌&&◌, ◌||◌}
 use Rattle.std.proofs.lemmas.Bool.{eqb-true}
 use Rattle.std.proofs.lemmas.Bool.Decides.{nat_tests}
 use Rattle.std.proofs.lemmas.List.{length-replicate, length-set}
-use Rattle.std.proofs.lemmas.List.Quantifiers.{position-Some}
 use Rattle.pcm_format.specs.declared.settings.Settings.{Settings}
 use Rattle.pcm_oss.specs.declared.event.Event.{Event}
 use Rattle.pcm_oss.specs.declared.event.Event.TheVariants.{Open, Write, Poke, Read, Ioctl, Join, StartGroup, Close, Mixer, Intr}
 use Rattle.pcm_oss.specs.declared.event.Way.{Way}
 use Rattle.pcm_oss.specs.declared.event.Way.TheVariants.{Play, Record, Map}
-use Rattle.pcm_oss.specs.declared.request.Request.{Request}
-use Rattle.pcm_oss.specs.declared.request.Request.TheVariants.{SetTrigger}
-use Rattle.pcm_oss.specs.declared.reply.Errno.TheVariants.{Inval}
 use Rattle.pcm_wave.specs.declared.pool.Pool.{Pool}
 use Rattle.pcm_wave.specs.declared.pool.Source.TheVariants.{Inline}
 use Rattle.pcm_wave.specs.Pools.{bytes_at}
@@ -22,17 +18,13 @@ use Rattle.pcm_desk.specs.declared.map_book.MapBook.{MapBook}
 use Rattle.pcm_desk.specs.declared.map_book.MapState.{MapState}
 use Rattle.pcm_desk.specs.declared.map_book.MapState.TheVariants.{Free, Setup, Running}
 use Rattle.pcm_desk.specs.Device.{DeviceSeen}
-use Rattle.pcm_desk.specs.PlayBooks.{write_turn}
-use Rattle.pcm_desk.specs.RecordBooks as records
-use Rattle.pcm_desk.specs.RecordRequests.{record_ask}
-use Rattle.pcm_desk.specs.MapBooks.{is_map_free, map_refilled_in, poke_turn}
-use Rattle.pcm_desk.specs.MapRequests.{map_ask}
-use Rattle.pcm_desk.specs.Desk.{Desk, DeskTurn, after, asking, close_map, close_play, close_record, desk_at_start, desk_here, held_by, ioctl_on, left, map_at, map_mixing, map_rate_at, map_turn, map_unopened, mixed_by, open_turn, play_turn, record_turn, refusing}
+use Rattle.pcm_desk.specs.MapBooks.{is_map_free, map_refilled_in}
+use Rattle.pcm_desk.specs.Channels.{Channel, Mapped, channel_begun, map_mixing, map_rate_at, mixed_by, own_turn, ungrouped, is_free}
+use Rattle.pcm_desk.specs.Desk.{Desk, DeskTurn, after, channel_at, desk_at_start, grouping_at, held_by, map_at, open_turn, descriptors_after, channel_turn}
+use Rattle.pcm_desk.specs.Own.{GoesByDescriptor, HoldApart, descriptor_of, held_after}
 use Rattle.pcm_desk.specs.Events.{IsDescriptor, after_all}
-use Rattle.pcm_desk.specs.Own.{Channel, GoesByDescriptor, HoldApart, Mapped, channel_at, descriptor_of, grouping_at, held_after, own_turn, ungrouped}
-use Rattle.pcm_desk.specs.OwnEvents.{channel_begun}
 use Rattle.pcm_desk.proofs.Apart.{apart-all, apart-start}
-use Rattle.pcm_desk.proofs.Grouping.{by-asking, by-joining, by-starting}
+use Rattle.pcm_desk.proofs.Grouping.{by-starting}
 use Rattle.pcm_desk.proofs.Isolation.{by-descriptor, named-fd, opened-begins, opened-is}
 use Rattle.pcm_desk.proofs.Slots.{map_at-passing}
 use Rattle.pcm_desk.proofs.Turning.{by-opening, by-turning}
@@ -41,6 +33,7 @@ use Rattle.pcm_sound.specs.OwnAreas.{ChangesOneArea, area_beside, bytes_poked, h
 use Rattle.pcm_sound.specs.Story.{Story, story_at_start, story_of, told}
 use Rattle.pcm_sound.proofs.AreaLaws.{area-kept}
 use Rattle.pcm_sound.proofs.Together.{desk-told}
+use Rattle.pcm_desk.proofs.Channels.{channel_named, least-unheld}
 
 -- ---- what an event writes
 
@@ -121,16 +114,11 @@ own-goes device pool story event slot written goes =
 taken_free : (device : DeviceSeen) (desk : Desk) (fd : ℕ) (way : Way) (settings : Settings) (slot : ℕ) → held_by desk fd ≡ None → held_by (open_turn desk fd way settings).desk fd ≡ Some (mapped_slot slot)
     → is_map_free (map_at device desk slot).state ≡ true
 taken_free device desk fd way settings slot shut =
-    by-opening (λ (w : Way) (d : Desk). held_by d fd ≡ Some (mapped_slot slot) → is_map_free (map_at device desk slot).state ≡ true) way desk fd settings
-    (λ w holds. let none : None ≡ Some (mapped_slot slot) = sym shut ∙ holds in cc)
-    (λ taken found holds. let clash : Map ≡ Play = ap (λ (h : Held). h.way) (is (record { way = Play; slot = taken }) holds) in cc)
-    (λ taken found holds. let clash : Map ≡ Record = ap (λ (h : Held). h.way) (is (record { way = Record; slot = taken }) holds) in cc)
-    (λ taken found holds.
-    let same : slot ≡ taken = ap (λ (h : Held). h.slot) (is (mapped_slot taken) holds) in
-    rw same (position-Some (λ (book : MapBook). is_map_free book.state) desk.mapped taken (map_unopened device) found).1)
-  where
-    is : (mine : Held) → get_or (set desk.descriptors fd (Some mine)) fd None ≡ Some (mapped_slot slot) → mapped_slot slot ≡ mine
-    is mine holds = opened-is desk.descriptors fd mine (mapped_slot slot) shut holds
+    by-opening (λ (turn : DeskTurn). held_by turn.desk fd ≡ Some (mapped_slot slot) → is_map_free (map_at device desk slot).state ≡ true) desk fd way settings
+    (λ mine e holds. let none : None ≡ Some (mapped_slot slot) = sym shut ∙ holds in cc)
+    (λ _ holds. let none : None ≡ Some (mapped_slot slot) = sym shut ∙ holds in cc)
+    (λ taken _ found holds. (let mine : Held = channel_named way taken in
+    ap (λ (h : Held). is_free (channel_at device desk h)) (opened-is desk.descriptors fd mine (mapped_slot slot) shut holds) ∙ (least-unheld device desk way taken found).free))
 
 -- its book begins
 taken_begins : (device : DeviceSeen) (desk : Desk) (fd : ℕ) (way : Way) (settings : Settings) (slot : ℕ) → held_by desk fd ≡ None → held_by (open_turn desk fd way settings).desk fd ≡ Some (mapped_slot slot)
@@ -275,33 +263,20 @@ area-alone device pool story (Intr n) apart count there = unnamed_leaves device 
 abbrev AsMany : Desk → Desk → Type 0
 AsMany old new = length new.descriptors ≡ length old.descriptors
 
-counted_asking : (device : DeviceSeen) (held : Option Held) (desk : Desk) (request : Request) → AsMany desk (ioctl_on device held desk request).desk
-counted_asking device held desk request =
-    by-turning (AsMany desk) (play_turn device (asking device (desk_here device desk) request) desk) (record_turn device (record_ask request) desk) (map_turn device (map_ask request) desk) held desk refl (λ slot. refl) (λ slot. refl) (λ slot. refl)
+counted_turn : (device : DeviceSeen) (desk : Desk) (event : Event) (fd : ℕ) → length (descriptors_after event desk.descriptors) ≡ length desk.descriptors → AsMany desk (channel_turn device desk event (held_by desk fd)).desk
+counted_turn device desk event fd same = by-turning (λ (turn : DeskTurn). AsMany desk turn.desk) device desk event (held_by desk fd) (λ e. refl) (λ held e. same)
 
 counted : (device : DeviceSeen) (desk : Desk) (event : Event) → AsMany desk (after device desk event).desk
 counted device desk (Open fd way settings) =
-    by-opening (λ (w : Way) (d : Desk). AsMany desk d) way desk fd settings (λ w. refl)
-    (λ slot found. length-set desk.descriptors fd (Some (record { way = Play; slot = slot })))
-    (λ slot found. length-set desk.descriptors fd (Some (record { way = Record; slot = slot })))
-    (λ slot found. length-set desk.descriptors fd (Some (mapped_slot slot)))
-counted device desk (Write fd source at size) =
-    by-turning (AsMany desk) (play_turn device (write_turn (desk_here device desk) size) desk) (λ slot. refusing desk Inval) (λ slot. refusing desk Inval) (held_by desk fd) desk refl (λ slot. refl) (λ slot. refl) (λ slot. refl)
-counted device desk (Poke fd offset at size) =
-    by-turning (AsMany desk) (λ slot. refusing desk Inval) (λ slot. refusing desk Inval) (map_turn device (poke_turn offset size) desk) (held_by desk fd) desk refl (λ slot. refl) (λ slot. refl) (λ slot. refl)
-counted device desk (Read fd size) =
-    by-turning (AsMany desk) (λ slot. refusing desk Inval) (record_turn device (records.read_turn size) desk) (λ slot. refusing desk Inval) (held_by desk fd) desk refl (λ slot. refl) (λ slot. refl) (λ slot. refl)
-counted device desk (Ioctl fd request) =
-    by-asking device (AsMany desk) (held_by desk fd) desk request refl (λ groups. counted_asking device (held_by desk fd) (record desk { groups = groups }) request)
-counted device desk (Join fd group) =
-    by-joining device (λ (t : DeskTurn). AsMany desk t.desk) (held_by desk fd) desk group (λ errno. refl) (λ held number e resting. counted_asking device (Some held) desk (SetTrigger 0))
+    by-opening (λ (turn : DeskTurn). AsMany desk turn.desk) desk fd way settings (λ held e. refl) (λ shut. refl) (λ slot shut found. length-set desk.descriptors fd (Some (channel_named way slot)))
+counted device desk (Write fd source at size) = counted_turn device desk (Write fd source at size) fd refl
+counted device desk (Poke fd offset at size) = counted_turn device desk (Poke fd offset at size) fd refl
+counted device desk (Read fd size) = counted_turn device desk (Read fd size) fd refl
+counted device desk (Ioctl fd request) = counted_turn device desk (Ioctl fd request) fd refl
+counted device desk (Join fd group) = counted_turn device desk (Join fd group) fd refl
 counted device desk (StartGroup fd group) =
-    by-starting device (λ (t : DeskTurn). AsMany desk t.desk) (held_by desk fd) desk group (λ errno. refl) (λ used ready. refl)
-counted device desk (Close fd) =
-    let closing : Desk = left (held_by desk fd) desk in
-    let shut : Option Held = None in
-    by-turning (AsMany desk) (close_play device closing fd) (close_record device closing fd) (close_map device closing fd) (held_by desk fd) closing refl
-    (λ slot. length-set desk.descriptors fd shut) (λ slot. length-set desk.descriptors fd shut) (λ slot. length-set desk.descriptors fd shut)
+    by-starting device (λ (turn : DeskTurn). AsMany desk turn.desk) (held_by desk fd) desk group (λ errno. refl) (λ used ready. refl)
+counted device desk (Close fd) = let shut : Option Held = None in counted_turn device desk (Close fd) fd (length-set desk.descriptors fd shut)
 counted device desk (Mixer request) = refl
 counted device desk (Intr n) = refl
 

@@ -1,4 +1,4 @@
--- What a client is told, the bytes of its reads included, goes by its own events, and by what is captured.
+-- The replies to a client, with the bytes of its reads, depend on its own events and on what is captured.
 use Rattle.std.proofs.Common.{◌≡◌, ℕ, ◌+◌, ◌-◌, Bool, true, false, cond, List, [], ◌∷◌, ◌++◌, drop, min, take, Some, Ok, Err, refl, sym, ap, ◌∙◌, subst, arith}
 use Rattle.std.specs.Prelude.{IsErr, eqb, nat_lt, not, ◌&&◌}
 use Rattle.std.proofs.lemmas.Bool.{eqb-true}
@@ -25,10 +25,11 @@ use Rattle.pcm_desk.specs.RecordBooks as records
 use Rattle.pcm_desk.specs.RecordBooks.{captured, is_running, read_turn, record_fill_of}
 use Rattle.pcm_desk.specs.RecordRequests.{record_ask}
 use Rattle.pcm_desk.specs.RecordSafe.{RecordIsSafe}
-use Rattle.pcm_desk.specs.Desk.{after, by_way, capturing, group_of, held_by, record_rate_at}
+use Rattle.pcm_desk.specs.Channels.{Channel, Mapped, Playing, Recording, by_way, capturing, channel_begun, own_turn, record_rate_at, ungrouped}
+use Rattle.pcm_desk.specs.Desk.{after, channel_at, group_of, held_by}
+use Rattle.pcm_desk.specs.Own.{HoldApart, MembersWait}
+use Rattle.pcm_desk.specs.OwnEvents.{JoinsNone, Opens, closes, concerns, joins, own_events, unnamed}
 use Rattle.pcm_desk.specs.Events.{frames_taken}
-use Rattle.pcm_desk.specs.Own.{Channel, HoldApart, Mapped, MembersWait, Playing, Recording, channel_at, own_turn, ungrouped}
-use Rattle.pcm_desk.specs.OwnEvents.{JoinsNone, Opens, channel_begun, closes, concerns, joins, own_events, unnamed}
 use Rattle.pcm_desk.proofs.Apart.{apart-after}
 use Rattle.pcm_desk.proofs.OwnEvents.{IsMine, begun-own, mine-turns, opened-none, other-stays, others-go}
 use Rattle.pcm_desk.proofs.RecordAsking.{record-ask-settings}
@@ -42,7 +43,7 @@ use Rattle.pcm_sound.specs.Story.{Story, told}
 use Rattle.pcm_sound.proofs.Pools.{going-alike}
 use Rattle.pcm_sound.proofs.Recorded.{idle-unstarted}
 
--- ---- a channel by itself: its book, its recording, and the frames handed over
+-- ---- a channel by itself: its book, its recording, and the frames that the device has been given
 
 -- the bytes that a read gets of a channel
 abbrev read_of : ℕ → Channel → recordings.Recording → List ℕ
@@ -176,11 +177,11 @@ told_unnamed device pool (Poke fd offset at count) (Mapped book) recording hande
 told_unnamed device pool (Mixer request) channel recording handed more = refl
 told_unnamed device pool (Intr n) channel recording handed more = refl
 
--- what a client is told by one channel of a story
+-- the replies to a client that holds one channel of a story
 abbrev told_by : DeviceSeen → Pool → Story → Held → List Event → List Reply
 told_by device pool story held events = own_told device pool (channel_at device story.desk held) (own_recording story held) story.desk.handed events
 
--- one event, and those behind it
+-- one event, and those after it
 told_step : (device : DeviceSeen) (pool : Pool) (story : Story) (event : Event) (events : List Event) (fd : ℕ) (held : Held) (own closing : Bool) → concerns fd event ≡ own → closes fd event ≡ closing → HoldApart story.desk → held_by story.desk fd ≡ Some held → group_of story.desk held ≡ 0
     → (joins fd event ≡ true → IsErr (after device story.desk event).reply)
     → let new : Story = told device pool story event in
@@ -232,7 +233,7 @@ told_step device pool story event events fd held false closing o c h m a joined 
     ∙ ap (λ (n : ℕ). own_told device pool (channel_at device new.desk held) (own_recording story held) n more) none
     ∙ ap (λ (c : Channel). own_told device pool c (own_recording story held) story.desk.handed more) is.channel
 
--- What a client is told goes by the book of its channel, its recording and its own events.
+-- The replies to a client go by the book of its channel, its recording and its own events.
 told_own : (device : DeviceSeen) (pool : Pool) (story : Story) (fd : ℕ) (held : Held) (events : List Event) → HoldApart story.desk → held_by story.desk fd ≡ Some held → group_of story.desk held ≡ 0 → JoinsNone device fd story.desk events
     → client_replies device pool fd story events ≡ told_by device pool story held (own_events fd events)
 told_own device pool story fd held [] h m a none = refl
@@ -381,7 +382,7 @@ begun_idle Play settings = refl
 begun_idle Record settings = refl
 begun_idle Map settings = refl
 
--- what an opening is told
+-- the replies to the events of an opening
 opening_told : (device : DeviceSeen) (pool : Pool) (fd : ℕ) (way : Way) (settings : Settings) (held : Held) (story : Story) (events : List Event) → HoldApart story.desk → MembersWait device story.desk
     → Opens device fd way settings held story.desk (told device pool story (Open fd way settings)).desk → JoinsNone device fd (told device pool story (Open fd way settings)).desk events
     → client_replies device pool fd (told device pool story (Open fd way settings)) events
@@ -394,7 +395,7 @@ opening_told device pool fd way settings held story events h w o none =
     ∙ ap (λ (c : Channel). own_told device pool c (own_recording new held) new.desk.handed own) (begun-own device fd way settings held story.desk new.desk o)
     ∙ ap (λ (n : ℕ). own_told device pool (channel_begun way settings) (own_recording new held) n own) taken
 
--- Two openings with the same settings, the same events of their own and the same frames captured are told the same, bytes included.
+-- Two openings with the same settings, the same own events and the same frames captured get the same replies, bytes included.
 pub clients-alike : (device : DeviceSeen) (pool more : Pool) (fd at : ℕ) (way : Way) (settings : Settings) (held theirs : Held) (one other : Story) (events others : List Event) → capture_frames more ≡ capture_frames pool
     → one.desk.handed ≡ other.desk.handed → HoldApart one.desk → HoldApart other.desk → MembersWait device one.desk → MembersWait device other.desk
     → Opens device fd way settings held one.desk (told device pool one (Open fd way settings)).desk

@@ -17,7 +17,7 @@ use Rattle.pcm_desk.specs.declared.play_book.PlayState.TheVariants.{Free, Setup,
 use Rattle.pcm_desk.specs.Device.{DeviceSeen, IsDevice, play_rate_between}
 use Rattle.pcm_desk.specs.PlayBooks.{frames_written, is_draining, is_started}
 use Rattle.pcm_desk.specs.PlaySafe.{IsPlayInOrder, PlayIsSafe}
-use Rattle.pcm_desk.specs.Desk.{play_rate_at}
+use Rattle.pcm_desk.specs.Channels.{play_rate_at}
 use Rattle.pcm_desk.proofs.PlaySafe.{allowed-lasts, given-allowed}
 use Rattle.pcm_desk.proofs.Ratios.{ratio-between}
 use Rattle.pcm_sound.specs.Runs.{Piece, Run, begun_run, taking, drops, marked, marking, run_frames}
@@ -71,7 +71,7 @@ lasts-newest device book run runs newest =
     ∙ ap (λ (settings : Settings). len (play_rate_between device settings) (whole_frames settings (length run.bytes))) newest.0
     ∙ ap (λ bytes. len (play_rate_at device book) (whole_frames book.opening.settings bytes)) newest.1
 
--- a run that was dropped, behind all that was given
+-- a run that was dropped, after all that was given
 dropped_end : (was drained : Bool) (lasts start given mixed until : ℕ) → (was ≡ true → drained ≡ true) → given ≤ lasts → start + given ≤ mixed → ((was ≡ true → given < lasts) → start + given ≡ mixed) → mixed ≤ until
     → min (cond drained (start + lasts) until) (min mixed until) ≡ start + given
 dropped_end true true lasts start given mixed until keeps most past next h =
@@ -83,7 +83,7 @@ dropped_end true false lasts start given mixed until keeps most past next h = ab
 dropped_end false true lasts start given mixed until keeps most past next h = let reached = next (λ e. cc) in omega arith
 dropped_end false false lasts start given mixed until keeps most past next h = let reached = next (λ e. cc) in omega arith
 
--- a run that was drained, behind all that it lasts for
+-- a run that was drained, after all that it lasts for
 pub lasted_end : (drained : Bool) (dropped : Option ℕ) (start lasts until : ℕ) → drained ≡ true → dropped ≡ None → start + lasts ≤ until
     → min (cond drained (start + lasts) until) (min (drop_end until dropped) until) ≡ start + lasts
 lasted_end true None start lasts until d e l = omega arith
@@ -99,7 +99,7 @@ lasted_within : (drained : Bool) (lasted until rest mixed : ℕ) → drained ≡
 lasted_within true lasted until rest mixed d l = omega arith
 lasted_within false lasted until rest mixed d l = cc
 
--- ---- what an event tells of the newest run
+-- ---- how an event marks the newest run
 
 -- a run with the marks of an event, from whether its book was started before and after it, drains, and is dropped
 abbrev pub told_run : Bool → Bool → Bool → Bool → ℕ → Run → Run
@@ -109,7 +109,7 @@ told_run before after draining dropping position run = record run {
   dropped = cond ((before && not after) && dropping) (Some position) run.dropped;
 }
 
--- nothing is told of a book that neither was started nor is
+-- a book that neither was started nor is doesn't mark a run as drained
 undrained : (drained dropping : Bool) → (drained || false || (false && not false) && not dropping) ≡ drained
 undrained true dropping = refl
 undrained false dropping = refl
@@ -210,7 +210,7 @@ counted_told true true draining dropping device mixed old new run b a plays none
       };
 }
 
--- What an event that takes no frames does to a book, which counts so many bytes before its newest run is told of it: the book goes on
+-- What an event that takes no frames does to a book, which counts `counts` bytes before the event marks its newest run: the book goes on
 -- with what it gave, or nothing of its run is left.
 pub record Moves (device : DeviceSeen) (event : Event) (old new : PlayBook) (counts : ℕ) (runs : List Run) : Type 0 where
   pub idle : counts ≡ 0 → is_started old.state ≡ false
@@ -242,7 +242,7 @@ pub not_true : (b : Bool) → (b ≡ true → ⊥) → b ≡ false
 not_true true h = absurd (h refl)
 not_true false h = refl
 
--- the newest run of a book with nothing written is over once the event was told of it
+-- the newest run of a book with nothing written is over once the event has marked it
 over_marked : (device : DeviceSeen) (mixed : ℕ) (event : Event) (old new : PlayBook) (written : ℕ) (run : Run) (runs : List Run) → IsDevice device → IsRate old.opening.settings.rate → PlayIsSafe (play_rate_at device old) old
     → Moves device event old new written (run ∷ runs) → ArePlaced device mixed old written (run ∷ runs) → new.written ≡ 0 → IsOver device mixed (marked mixed event old new run)
 over_marked device mixed event old new zero run runs d s safe m p none =
@@ -256,7 +256,7 @@ over_marked device mixed event old new (suc more) run runs d s safe m p none =
     (λ e keeps. m.whole e stopped keeps ∙ sym lasts)
     (p.2 (omega arith))
 
--- the pieces of a slot stay in their places once an event was told of its newest run
+-- the pieces of a slot stay in their places once an event has marked its newest run
 pub placed-marking : (device : DeviceSeen) (mixed : ℕ) (event : Event) (old new : PlayBook) (written : ℕ) (runs : List Run) → IsDevice device → IsRate old.opening.settings.rate → PlayIsSafe (play_rate_at device old) old
     → Moves device event old new written runs → ArePlaced device mixed old written runs → SlotIsPlaced device mixed new (marking mixed event old new runs)
 placed-marking device mixed event old new written [] d s safe m p = tt

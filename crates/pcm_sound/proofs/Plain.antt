@@ -55,13 +55,13 @@ map-in_place device story slot v = both (story.map_runs slot) (map_heard device 
         (whole, heard-in_place device story.desk.mixed run (All-head (RunIsHeard device story.desk.mixed) run runs h) whole)
         (both runs (All-tail (RunIsHeard device story.desk.mixed) run runs h) (All-tail IsUnbroken run runs w))
 
--- what the runs of a story without a shortage give is told by their starts and ends
+-- the starts and ends of the runs of a story without a shortage say what these give
 pub table_of-plain : (device : DeviceSeen) (story : Story) (slot position : ℕ) → StoryIsValid device story → HasNoShortage story → table_of device story slot position ≡ plain_table device story slot position
 table_of-plain device story slot position v unbroken =
     sounding-spans device (last_gain (mixed_gains device story slot) position) story.desk.mixed position (mixed_runs device story slot) (story_heard device story slot v)
     (story_whole device story slot v unbroken)
 
--- and so are the bytes that were handed over
+-- and so are the bytes that the device has been given
 pub plain-body : (device : DeviceSeen) (story : Story) → StoryIsValid device story → HasNoShortage story → device_body device story ≡ device_body_of device story.faders (plain_table device story) story.desk.handed
 plain-body device story v unbroken =
     ap (λ (list : List Frame). spelled_frames (device_settings device).format (take story.desk.handed list))
@@ -116,7 +116,7 @@ alike_earlier device until earlier one a other b within alike = record {
   master = λ position l. alike.master position (omega (arith, l, within));
 }
 
--- the front of the device's frames is there once as many were handed over
+-- the front of the device's frames is there once it has been given as many
 list_front : (device : DeviceSeen) (faders : Faders) (table : Table) (until count : ℕ) → IsDevice device → until ≤ count → take until (device_list device faders table count) ≡ take until (device_list device faders table until)
 list_front device faders table until count d h =
     let split : count ≡ until + (count - until) = omega arith in
@@ -144,7 +144,7 @@ min_times a b size =
           rw least (omega arith))
     ]
 
--- the front of what was handed over, of so many frames
+-- the front of what the device has been given, of `count` frames
 body_front : (device : DeviceSeen) (story : Story) (count : ℕ) → StoryIsValid device story
     → take (count * device_frame_bytes device) (device_body device story)
     ≡ spelled_frames (device_settings device).format (take (min story.desk.handed count) (device_list device story.faders (table_of device story) story.desk.handed))
@@ -163,7 +163,7 @@ length-device_body device story v =
     let more = mul-le-mul_right {m = story.desk.handed} {n = ring_frames device + story.desk.handed} size (omega arith) in
     ap length (device_body-bytes device story v) ∙ length-take (story.desk.handed * size) (device_bytes device story) ∙ omega (arith, length-device_bytes device story v)
 
--- two stories that sound alike hand over equal bytes, as far as both go
+-- two stories that sound alike give the device equal bytes, as far as both go
 pub alike-bodies : (device : DeviceSeen) (one other : Story) → StoryIsValid device one → StoryIsValid device other → HasNoShortage one → HasNoShortage other
     → SoundAlike device (min one.desk.mixed other.desk.mixed) one other → AgreeInCommon (device_body device one) (device_body device other)
 alike-bodies device one other v w unbroken whole alike =

@@ -15,7 +15,8 @@ use Rattle.pcm_desk.specs.declared.record_book.RecordBook.{RecordBook}
 use Rattle.pcm_desk.specs.declared.map_book.MapBook.{MapBook}
 use Rattle.pcm_desk.specs.Device.{DeviceSeen}
 use Rattle.pcm_desk.specs.RecordBooks.{is_running, keeping}
-use Rattle.pcm_desk.specs.Desk.{Desk, after, map_at, play_at, held_by, record_at, record_rate_at}
+use Rattle.pcm_desk.specs.Channels.{record_rate_at}
+use Rattle.pcm_desk.specs.Desk.{Desk, after, held_by, map_at, play_at, record_at}
 use Rattle.pcm_desk.specs.Events.{Fits}
 use Rattle.pcm_sound.specs.Areas.{holds_map, poked, silences, silent_area, written_by}
 use Rattle.pcm_sound.specs.Gains.{faders_after, gains_after, map_loudness, play_loudness}
@@ -27,7 +28,7 @@ use Rattle.pcm_sound.specs.Runs.{Run, marking, runs_after, taking}
 use Rattle.pcm_sound.specs.Story.{Story, story_at_start, story_of, told, told_all}
 use Rattle.pcm_sound.specs.Valid.{RecordingsAreValid}
 use Rattle.pcm_sound.proofs.Slots.{WritesSome}
-use Rattle.pcm_sound.proofs.Stories.{writes-write_on}
+use Rattle.pcm_sound.proofs.Stories.{writes-some}
 
 -- ---- one event
 
@@ -49,7 +50,7 @@ runs_alike device one other desk (Write fd source at count) slot runs same =
     let old : PlayBook = play_at device desk slot in
     let new : PlayBook = play_at device (after device desk (Write fd source at count)).desk slot in
     ap (λ (bytes : List ℕ). marking desk.mixed (Write fd source at count) old new (taking bytes old runs))
-    (bytes_alike one other source at count (new.written - old.written) same (grows_within count old new ((writes-write_on device (held_by desk fd) desk count).slots slot)))
+    (bytes_alike one other source at count (new.written - old.written) same (grows_within count old new (writes-some device desk fd source at count slot)))
 runs_alike device one other desk (Poke fd offset at count) slot runs same = refl
 runs_alike device one other desk (Read fd count) slot runs same = refl
 runs_alike device one other desk (Ioctl fd request) slot runs same = refl
@@ -116,7 +117,7 @@ told_all_alike device one other story (event ∷ events) brings captured =
     ap (λ (s : Story). told_all device other s events) (told-alike device one other story event (All-head (BringsAlike one other) event events brings) captured)
     ∙ told_all_alike device one other (told device one story event) events (All-tail (BringsAlike one other) event events brings) captured
 
--- Pools that are alike tell one story.
+-- Pools that are alike give one story.
 pub story-alike : (device : DeviceSeen) (one other : Pool) (events : List Event) → AreAlike one other events → story_of device other events ≡ story_of device one events
 story-alike device one other events alike = told_all_alike device one other (story_at_start device) events alike.bytes alike.captured
 

@@ -37,7 +37,7 @@ use Rattle.pcm_desk.specs.Device.{DeviceSeen, IsDevice, device_settings, filters
 use Rattle.pcm_desk.proofs.Ratios.{record-plan-between-fits}
 use Rattle.pcm_desk.specs.declared.record_book.RecordBook.{RecordBook}
 use Rattle.pcm_desk.specs.RecordBooks.{captures, coming, keeping}
-use Rattle.pcm_desk.specs.Desk.{record_rate_at}
+use Rattle.pcm_desk.specs.Channels.{record_rate_at}
 use Rattle.pcm_sound.specs.Given.{recorded_bytes}
 use Rattle.pcm_sound.specs.Recordings.{Recording, keeps, loses, recorded_frames}
 use Rattle.pcm_sound.specs.Valid.{IsRecorded}

@@ -25,7 +25,7 @@ use Rattle.pcm_desk.specs.Device.{DeviceSeen, IsDevice, passed_for, play_rate_be
 use Rattle.pcm_desk.specs.Openings.{fragment_bytes}
 use Rattle.pcm_desk.specs.PlayBooks.{accepting, allowed_in, frames_written, giving, is_draining, is_started, play_fill_of, play_free_of, started_at, started_in, takes_none, write_turn}
 use Rattle.pcm_desk.specs.PlaySafe.{PlayIsSafe}
-use Rattle.pcm_desk.specs.Desk.{mixing, play_rate_at, settling}
+use Rattle.pcm_desk.specs.Channels.{mixing, play_rate_at, settling}
 use Rattle.pcm_desk.proofs.PlaySafe.{full_at, grown, given-allowed, settings-refilled, settings-settled, state-refilled, undrained, written-refilled}
 use Rattle.pcm_desk.proofs.PlayLeaves.{Leaves, Stays, settle-leaves, stays-same}
 use Rattle.pcm_desk.proofs.Ratios.{ratio-between}
@@ -176,14 +176,14 @@ later_piece mixed later most more piece h g v =
 later_pieces : (mixed later most more : ℕ) (pieces : List Piece) → mixed ≤ later → most ≤ more → All (PieceIsValid mixed most) pieces → All (PieceIsValid later more) pieces
 later_pieces mixed later most more pieces h g v = All-weaker (PieceIsValid mixed most) (PieceIsValid later more) (λ piece p. later_piece mixed later most more piece h g p) pieces v
 
--- ---- the runs of a slot, before an event is told of them
+-- ---- the runs of a slot, before an event marks them
 
 -- the newest run has the bytes that a book counts, and is marked as drained or not
 abbrev pub IsCarried : Bool → PlayBook → List Run → Type 0
 IsCarried drained book [] = ⊥
 IsCarried drained book (run ∷ runs) = (run.settings ≡ book.opening.settings) × (length run.bytes ≡ book.written) × (run.drained ≡ drained)
 
--- A slot's book after an event, and its runs before the event is told of them: the newest is marked as the old book was.
+-- A slot's book after an event, and its runs before the event marks them: the newest is marked as the old book was.
 pub record IsUntold (device : DeviceSeen) (mixed : ℕ) (old new : PlayBook) (runs : List Run) : Type 0 where
   pub settings : IsRate new.opening.settings.rate
   pub started : is_started new.state ≡ true → 0 < new.written
@@ -223,7 +223,7 @@ untold-empty device mixed old new runs none stopped settings pieces own = record
   own = own;
 }
 
--- ---- what an event tells of them
+-- ---- how an event marks them
 
 -- a run is marked as drained exactly where its book drains, since a book that goes on ends nothing
 marked_drained : (drained now before after keeps : Bool) → (drained ≡ true → now ≡ true) → (before ≡ true → after ≡ true) → (drained || now || (before && not after) && keeps) ≡ now
@@ -249,7 +249,7 @@ marked_newest : (position : ℕ) (event : Event) (old new : PlayBook) (run : Run
 marked_newest position event old new run runs on c =
     (c.0, c.1, marked_drained run.drained (is_draining new.state) (is_started old.state) (is_started new.state) (not (drops event)) (λ e. on.drains (sym c.2 ∙ e)) on.plays)
 
--- a slot is valid once the event was told of its newest run
+-- a slot is valid once the event has marked its newest run
 pub valid-marking : (device : DeviceSeen) (mixed position : ℕ) (event : Event) (old new : PlayBook) (runs : List Run) → IsDevice device → IsUntold device mixed old new runs → SlotIsValid device mixed new (marking position event old new runs)
 valid-marking device mixed position event old new [] d u = record {
   settings = u.settings;
@@ -454,14 +454,14 @@ pub state-mixing : (device : DeviceSeen) (mixed n : ℕ) (book : PlayBook) → (
 state-mixing device mixed zero book = refl
 state-mixing device mixed (suc n) book = state-refilled (play_rate_at device book) mixed (suc n) book
 
--- what frames that are handed over leave of a slot, before its newest run is told of them
+-- what a hand-over leaves of a slot, before it marks the newest run
 pub untold-settling : (device : DeviceSeen) (mixed handed : ℕ) (book : PlayBook) (runs : List Run) → SlotIsValid device mixed book runs → IsUntold device mixed book (settling device handed book) runs
 untold-settling device mixed handed book runs v =
     let rate : Rate = play_rate_at device book in
     untold-leaves device mixed book (settling device handed book) runs (settle-leaves rate (passed_for device handed) book)
     (subst (λ (settings : Settings). IsRate settings.rate) (sym (settings-settled rate (passed_for device handed) book)) v.settings) v
 
--- what an interrupt that mixes n frames leaves of it once so many were handed over
+-- what an interrupt that mixes n frames leaves of it once the device has been given `handed` frames
 pub untold-passing : (device : DeviceSeen) (mixed n handed : ℕ) (book : PlayBook) (runs : List Run) → SlotIsValid device (mixed + n) (mixing device mixed n book) (playing device mixed n book runs)
     → IsUntold device (mixed + n) book (settling device handed (mixing device mixed n book)) (playing device mixed n book runs)
 untold-passing device mixed n handed book runs v =

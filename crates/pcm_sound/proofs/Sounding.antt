@@ -19,7 +19,7 @@ use Rattle.pcm_desk.proofs.Ratios.{plan-between-fits}
 use Rattle.pcm_desk.specs.declared.play_book.PlayBook.{PlayBook}
 use Rattle.pcm_desk.specs.Device.{DeviceSeen, IsDevice, filters_of, play_plan_between, play_rate_between}
 use Rattle.pcm_desk.specs.PlayBooks.{giving, is_draining, is_started}
-use Rattle.pcm_desk.specs.Desk.{play_rate_at}
+use Rattle.pcm_desk.specs.Channels.{play_rate_at}
 use Rattle.pcm_sound.specs.Given.{given_frame}
 use Rattle.pcm_sound.specs.Gains.{GainSet, Loudness, fader_after, gains_after, is_same_gain, last_gain, loudness_gain, sets_volume}
 use Rattle.pcm_sound.specs.Runs.{Piece, Run, begun_run, piece_of, taking, playing, marking, covers, run_frames, piece_frame, first_of, sounding}
@@ -49,7 +49,7 @@ frames-append settings bytes more =
     (map-range-same (frame_at settings (bytes ++ more)) (frame_at settings bytes) before
     (λ k below. frame_at-append settings bytes more k (frame_fits settings (length bytes) k below)))
 
--- so more bytes behind leave the frames before them
+-- so more bytes after them leave the frames before them
 pub frames-front : (settings : Settings) (bytes more : List ℕ) (n : ℕ) → n ≤ whole_frames settings (length bytes) → take n (frames settings (bytes ++ more)) ≡ take n (frames settings bytes)
 frames-front settings bytes more n within =
     ap (take n) (frames-append settings bytes more) ∙ take-append-le n (frames settings bytes) (frames_added settings bytes more) (omega (arith, length-frames settings bytes))
@@ -152,7 +152,7 @@ sounding-playing device gain position n p book (run ∷ runs) h =
       | false ↦ refl
     ]
 
--- what an event tells of a run beside its bytes and pieces isn't heard
+-- how an event marks a run, beside its bytes and pieces, isn't heard
 pub sounding-marking : (device : DeviceSeen) (gain : Gain) (position : ℕ) (event : Event) (old new : PlayBook) (runs : List Run) (p : ℕ)
     → sounding device gain (marking position event old new runs) p ≡ sounding device gain runs p
 sounding-marking device gain position event old new [] p = refl

@@ -1,23 +1,20 @@
 -- A story stays valid through every event that fits, and what was mixed stays as it was.
-use Rattle.std.proofs.Common.{◌≡◌, ℕ, suc, zero, ◌+◌, ◌-◌, ◌<◌, ◌≤◌, Bool, true, false, cond, List, [], ◌∷◌, ◌++◌, length, get_or, drop, replicate, Option, Some, None, inl, inr, refl, sym, ap, ◌∙◌, subst, arith, All, length-take, length-drop}
-use Rattle.std.specs.Prelude.{is_some, nat_le, nat_lt, not, eqb}
+use Rattle.std.proofs.Common.{◌≡◌, ℕ, suc, zero, ◌+◌, ◌-◌, ◌<◌, ◌≤◌, Bool, true, false, cond, List, [], ◌∷◌, ◌++◌, length, get_or, drop, replicate, Option, Some, None, inl, inr, refl, sym, ap, ◌∙◌, subst, arith, All, length-take, length-drop, Result, Ok, Err}
+use Rattle.std.specs.Prelude.{nat_le, nat_lt, not, eqb}
 use Rattle.std.proofs.lemmas.List.{get_or_past, get_or-replicate, length-replicate}
 use Rattle.std.proofs.lemmas.Bool.{and_parts, cases_lt, eqb-true, not-false, or_parts}
 use Rattle.std.proofs.lemmas.Bool.Decides.{nat_tests}
 use Rattle.std.proofs.lemmas.List.Elements.{All-head, All-nil, All-tail}
-use Rattle.std.proofs.lemmas.List.Quantifiers.{position-Some}
 use Rattle.pcm_format.specs.declared.settings.Settings.{Settings}
 use Rattle.pcm_oss.specs.declared.event.Event.{Event}
 use Rattle.pcm_oss.specs.declared.event.Event.TheVariants.{Open, Write, Poke, Read, Ioctl, Join, StartGroup, Close, Mixer, Intr}
 use Rattle.pcm_oss.specs.declared.event.Way.{Way}
-use Rattle.pcm_oss.specs.declared.event.Way.TheVariants.{Play, Record, Map}
+use Rattle.pcm_oss.specs.declared.event.Way.TheVariants.{Play}
 use Rattle.pcm_oss.specs.declared.event.TheConstants.{SLOTS}
-use Rattle.pcm_oss.specs.declared.mix_request.MixRequest.{MixRequest}
 use Rattle.pcm_oss.specs.declared.volume.TheConstants.{VOLUME}
 use Rattle.pcm_oss.specs.declared.request.Request.{Request}
 use Rattle.pcm_oss.specs.declared.request.Request.TheVariants.{SetTrigger}
 use Rattle.pcm_wave.specs.declared.pool.Pool.{Pool}
-use Rattle.pcm_oss.specs.declared.reply.Errno.TheVariants.{Exist, Inval}
 use Rattle.pcm_oss.specs.Volumes.{gain_of}
 use Rattle.pcm_oss.proofs.Limits.{usual-fragments}
 use Rattle.pcm_wave.specs.declared.pool.Source.{Source}
@@ -25,31 +22,22 @@ use Rattle.pcm_wave.specs.Pools.{bytes_at, source_bytes}
 use Rattle.pcm_feeder.specs.declared.stage.Gain.{Gain}
 use Rattle.pcm_rate.specs.declared.rate.Rate.{Rate}
 use Rattle.pcm_feeder.specs.Limits.{IsRate}
-use Rattle.pcm_group.specs.declared.sync_groups.Groups.{Groups}
-use Rattle.pcm_group.proofs.Members.{used-some}
 use Rattle.pcm_mixdev.specs.Mixers.{full_mixer, master_gain, no_gain, slot_gain, slot_volume}
 use Rattle.pcm_desk.specs.declared.play_book.PlayBook.{PlayBook}
-use Rattle.pcm_desk.specs.declared.device.Held.{Held}
-use Rattle.pcm_desk.specs.declared.record_book.RecordBook.{RecordBook}
-use Rattle.pcm_desk.specs.RecordBooks as records
-use Rattle.pcm_desk.specs.RecordBooks.{record_begun}
-use Rattle.pcm_desk.specs.RecordRequests.{record_ask}
 use Rattle.pcm_desk.specs.declared.map_book.MapBook.{MapBook}
-use Rattle.pcm_desk.specs.MapBooks.{map_begun, map_closed, poke_turn}
-use Rattle.pcm_desk.specs.MapRequests.{map_ask}
 use Rattle.pcm_desk.specs.declared.here.Here.{Here}
 use Rattle.pcm_desk.specs.Device.{DeviceSeen, IsDevice, here_at, mix_settings, map_slots, mixed_for, play_rate_between, play_slots}
 use Rattle.pcm_desk.specs.PlayBooks.{is_draining, is_play_free, is_started, play_begun, write_turn}
 use Rattle.pcm_desk.specs.PlaySafe.{PlayIsHere, PlayIsSafe}
-use Rattle.pcm_desk.specs.Desk.{Desk, DeskTurn, after, asking, both_bits, by_way, close_map, close_on, close_play, close_record, closing, desk_here, group_started, held_by, ioctl_on, join_on, left, least_free_map, least_free_play, least_free_record, map_at, map_turn, map_unopened, mixed_by, mixer_turn, mixing, open_map, open_play, open_record, open_turn, play_at, play_passing, play_rate_at, play_turn, play_unopened, poke_on, read_on, record_at, record_turn, refusing, request_on, rests, settling, start_on, turning, with_descriptor, with_map, with_play, with_record, write_on}
+use Rattle.pcm_desk.specs.Channels.{asking, both_bits, closing, mixed_by, mixing, play_passing, play_rate_at, rests, settling, own_request, own_join, own_turn, Playing, Channel, channel_begun, member_refusal, join_result, play_starting}
+use Rattle.pcm_desk.specs.Desk.{Desk, after, desk_here, map_at, map_unopened, play_at, play_unopened, grouping_at, is_member}
 use Rattle.pcm_desk.specs.Events.{Fits, frames_taken}
-use Rattle.pcm_desk.proofs.Grouping.{by-asking, by-joining, by-starting, play_at-started}
 use Rattle.pcm_desk.proofs.PlayHere.{here-ask, here-begun, here-close, here-settled, here-write, last-refilled}
 use Rattle.pcm_desk.proofs.PlaySafe.{unstarted, safe-begun, safe-write, safe-close, safe-refilled, safe-settled, settings-refilled, settings-settled}
 use Rattle.pcm_desk.proofs.PlaySafeAsking.{safe-ask}
 use Rattle.pcm_desk.proofs.PlayLeaves.{ask-leaves, close-leaves, close-keeps}
 use Rattle.pcm_desk.proofs.Ratios.{mixed-behind, ratio-between}
-use Rattle.pcm_desk.proofs.Slots.{play_at-passing, play_at-with}
+use Rattle.pcm_desk.proofs.Slots.{play_at-passing}
 use Rattle.pcm_sound.specs.Gains.{GainSet, Loudness, begins, book_gain, is_same_gain, last_gain, loudness_gain, map_gain, map_loudness, master_gain_at, play_loudness, sets_volume, slot_gain_at}
 use Rattle.pcm_sound.specs.Runs.{Run, asks_drop, drops, taking, playing, carrying, marking, sounding}
 use Rattle.pcm_sound.specs.MapRuns.{map_carrying, map_marking}
@@ -65,6 +53,11 @@ use Rattle.pcm_sound.proofs.Places.{placed-left, placed-taken}
 use Rattle.pcm_sound.proofs.Interrupts.{placed-passing}
 use Rattle.pcm_sound.proofs.MapSlots.{map-marked}
 use Rattle.pcm_sound.proofs.MapStories.{keeps-maps, map-interrupted, map-untaken, map-valid-start, sounding-map_carrying, sounding-map_marking}
+use Rattle.pcm_desk.proofs.After.{channel-after, playing_or}
+use Rattle.pcm_desk.proofs.Channels.{channel_named}
+use Rattle.pcm_group.specs.Groups.{joining}
+use Rattle.pcm_oss.specs.declared.reply.Errno.{Errno}
+use Rattle.pcm_desk.proofs.Turning.{mixed-same, handed-taken}
 
 -- ---- the counts of a book
 
@@ -140,7 +133,7 @@ last-mixing : (device : DeviceSeen) (mixed n : ℕ) (book : PlayBook) → (is_st
 last-mixing device mixed zero book h e = let past = h e in omega arith
 last-mixing device mixed (suc n) book h e = last-refilled (play_rate_at device book) mixed (suc n) book h e
 
--- and where frames are handed over
+-- and after a hand-over
 pub order-settling : (device : DeviceSeen) (mixed handed : ℕ) (book : PlayBook) → mixed_for device handed ≡ mixed → (is_started book.state ≡ true → book.last ≤ mixed) → IsSafeAt device book → IsInOrder device (here_at device handed) (settling device handed book)
 order-settling device mixed handed book level past safe =
     let rate : Rate = play_rate_at device book in
@@ -157,332 +150,149 @@ order-settling device mixed handed book level past safe =
 abbrev pub HaveRates : DeviceSeen → Desk → Type 0
 HaveRates device desk = (slot : ℕ) → IsRate (play_at device desk slot).opening.settings.rate
 
--- a book in order after a book was set at some slot: the new book where it is that one, else the old
-order-with : (device : DeviceSeen) (now : Here) (desk : Desk) (at slot : ℕ) (book : PlayBook) → IsInOrder device now (play_at device desk slot) → (slot ≡ at → IsInOrder device now book)
-    → IsInOrder device now (play_at device (with_play desk at book) slot)
-order-with device now desk at slot book old new =
-    elim (play_at-with device desk at slot book) [
-      | inl here ↦ subst (IsInOrder device now) (sym here.1) (new here.0)
-      | inr same ↦ subst (IsInOrder device now) (sym same) old
-    ]
-
--- what an event at a desk leaves of a slot, before its newest run is told of it
+-- what an event at a desk leaves of a slot, before it marks the newest run
 abbrev pub SlotIsUntold : DeviceSeen → ℕ → Desk → Desk → ℕ → List Run → Type 0
 SlotIsUntold device mixed old new slot runs = IsUntold device mixed (play_at device old slot) (play_at device new slot) runs
-
--- the same of the slot's runs
-untold_with : (device : DeviceSeen) (mixed : ℕ) (desk : Desk) (at slot : ℕ) (book : PlayBook) (runs : List Run)
-    → SlotIsValid device mixed (play_at device desk slot) runs → (slot ≡ at → IsUntold device mixed (play_at device desk slot) book runs)
-    → SlotIsUntold device mixed desk (with_play desk at book) slot runs
-untold_with device mixed desk at slot book runs old new =
-    elim (play_at-with device desk at slot book) [
-      | inl here ↦ subst (λ (b : PlayBook). IsUntold device mixed (play_at device desk slot) b runs) (sym here.1) (new here.0)
-      | inr same ↦ subst (λ (b : PlayBook). IsUntold device mixed (play_at device desk slot) b runs) (sym same) (untold-same device mixed (play_at device desk slot) runs old)
-    ]
 
 -- a book after an event that brings no bytes and takes no frames
 abbrev KeepsGivenAt : DeviceSeen → Bool → PlayBook → PlayBook → Type 0
 KeepsGivenAt device dropping old new = KeepsGiven (play_rate_at device old) dropping old new
 
--- each slot's book after one book was set
-given_with : (device : DeviceSeen) (dropping : Bool) (desk : Desk) (at slot : ℕ) (book : PlayBook) → (slot ≡ at → KeepsGivenAt device dropping (play_at device desk slot) book)
-    → KeepsGivenAt device dropping (play_at device desk slot) (play_at device (with_play desk at book) slot)
-given_with device dropping desk at slot book new =
-    let old : PlayBook = play_at device desk slot in
-    elim (play_at-with device desk at slot book) [
-      | inl here ↦ subst (KeepsGivenAt device dropping old) (sym here.1) (new here.0)
-      | inr same ↦ subst (KeepsGivenAt device dropping old) (sym same) (given-same (play_rate_at device old) dropping old)
-    ]
+-- what an event that brings no bytes and takes no frames leaves of a book: its order, its runs, and what it gives
+record LeavesBook (device : DeviceSeen) (here : Here) (mixed : ℕ) (dropping : Bool) (old new : PlayBook) : Type 0 where
+  order : IsInOrder device here old → IsInOrder device here new
+  runs : (runs : List Run) → IsSafeAt device old → SlotIsValid device mixed old runs → IsUntold device mixed old new runs
+  given : IsSafeAt device old → KeepsGivenAt device dropping old new
 
--- an event that brings no bytes and takes no frames leaves the slots valid, and the counts of the device
+-- and so of each slot, and of the counts of the device
 pub record LeavesSlots (device : DeviceSeen) (mixed : ℕ) (dropping : Bool) (old new : Desk) : Type 0 where
-  pub order : (slot : ℕ) → IsInOrder device (desk_here device old) (play_at device old slot) → IsInOrder device (desk_here device old) (play_at device new slot)
-  pub slots : (slot : ℕ) (runs : List Run) → IsSafeAt device (play_at device old slot) → SlotIsValid device mixed (play_at device old slot) runs → SlotIsUntold device mixed old new slot runs
-  pub given : (slot : ℕ) → IsSafeAt device (play_at device old slot) → KeepsGivenAt device dropping (play_at device old slot) (play_at device new slot)
-  pub handed_same : new.handed ≡ old.handed
-  pub mixed_same : new.mixed ≡ old.mixed
+  slots : (slot : ℕ) → LeavesBook device (desk_here device old) mixed dropping (play_at device old slot) (play_at device new slot)
+  handed_same : new.handed ≡ old.handed
+  mixed_same : new.mixed ≡ old.mixed
 
-stays : (device : DeviceSeen) (mixed : ℕ) (dropping : Bool) (desk : Desk) → LeavesSlots device mixed dropping desk desk
-stays device mixed dropping desk = record {
-  order = λ slot o. o;
-  slots = λ slot runs s v. untold-same device mixed (play_at device desk slot) runs v;
-  given = λ slot s. given-same (play_rate_at device (play_at device desk slot)) dropping (play_at device desk slot);
-  handed_same = refl;
-  mixed_same = refl;
+-- ---- the turn of a channel
+
+same_leaves : (device : DeviceSeen) (here : Here) (mixed : ℕ) (dropping : Bool) (book : PlayBook) → LeavesBook device here mixed dropping book book
+same_leaves device here mixed dropping book = record {
+  order = λ o. o;
+  runs = λ runs s v. untold-same device mixed book runs v;
+  given = λ s. given-same (play_rate_at device book) dropping book;
 }
 
--- one book is set
-leaves-with : (device : DeviceSeen) (mixed : ℕ) (dropping : Bool) (desk : Desk) (at : ℕ) (book : PlayBook) → (IsInOrder device (desk_here device desk) (play_at device desk at) → IsInOrder device (desk_here device desk) book)
-    → ((runs : List Run) → IsSafeAt device (play_at device desk at) → SlotIsValid device mixed (play_at device desk at) runs → IsUntold device mixed (play_at device desk at) book runs)
-    → (IsSafeAt device (play_at device desk at) → KeepsGivenAt device dropping (play_at device desk at) book)
-    → LeavesSlots device mixed dropping desk (with_play desk at book)
-leaves-with device mixed dropping desk at book order valid given = record {
-  order = λ slot o. order-with device (desk_here device desk) desk at slot book o (λ e. order (subst (λ (k : ℕ). IsInOrder device (desk_here device desk) (play_at device desk k)) e o));
-  slots = λ slot runs s v. untold_with device mixed desk at slot book runs v
-      (λ e. subst (λ (k : ℕ). IsUntold device mixed (play_at device desk k) book runs) (sym e)
-      (valid runs (subst (λ (k : ℕ). IsSafeAt device (play_at device desk k)) e s) (subst (λ (k : ℕ). SlotIsValid device mixed (play_at device desk k) runs) e v)));
-  given = λ slot s. given_with device dropping desk at slot book
-      (λ e. subst (λ (k : ℕ). KeepsGivenAt device dropping (play_at device desk k) book) (sym e) (given (subst (λ (k : ℕ). IsSafeAt device (play_at device desk k)) e s)));
-  handed_same = refl;
-  mixed_same = refl;
+-- an open takes a free slot
+begun_leaves : (device : DeviceSeen) (here : Here) (mixed : ℕ) (old : PlayBook) (settings : Settings) → IsRate settings.rate → is_play_free old.state ≡ true → LeavesBook device here mixed false old (play_begun settings)
+begun_leaves device here mixed old settings rate free = record {
+  order = λ o. record { counts = safe-begun (play_rate_between device settings) settings; place = here-begun (play_rate_between device settings) here settings };
+  runs = λ runs s v. untold-empty device mixed old (play_begun settings) runs refl refl rate v.pieces v.own;
+  given = λ s. given-begun (play_rate_at device old) old settings free;
 }
-
--- a descriptor is set besides
-leaves-descriptor : (device : DeviceSeen) (mixed : ℕ) (dropping : Bool) (old new : Desk) (fd : ℕ) (held : Option Held) → LeavesSlots device mixed dropping old new → LeavesSlots device mixed dropping old (with_descriptor new fd held)
-leaves-descriptor device mixed dropping old new fd held l = record { order = l.order; slots = l.slots; given = l.given; handed_same = l.handed_same; mixed_same = l.mixed_same }
-
--- a record book is set
-leaves-record : (device : DeviceSeen) (mixed : ℕ) (dropping : Bool) (desk : Desk) (at : ℕ) (book : RecordBook) → LeavesSlots device mixed dropping desk (with_record desk at book)
-leaves-record device mixed dropping desk at book = let l = stays device mixed dropping desk in record { order = l.order; slots = l.slots; given = l.given; handed_same = refl; mixed_same = refl }
-
--- a mapped book is set
-leaves-map : (device : DeviceSeen) (mixed : ℕ) (dropping : Bool) (desk : Desk) (at : ℕ) (book : MapBook) → LeavesSlots device mixed dropping desk (with_map desk at book)
-leaves-map device mixed dropping desk at book = let l = stays device mixed dropping desk in record { order = l.order; slots = l.slots; given = l.given; handed_same = refl; mixed_same = refl }
-
--- an open sets the book of the least free slot of its way
-leaves-open_play : (device : DeviceSeen) (mixed : ℕ) (found : Option ℕ) (desk : Desk) (fd : ℕ) (settings : Settings) → IsRate settings.rate → least_free_play desk.play ≡ found → LeavesSlots device mixed false desk (open_play found desk fd settings).desk
-leaves-open_play device mixed None desk fd settings rate e = stays device mixed false desk
-leaves-open_play device mixed (Some at) desk fd settings rate e =
-    let old : PlayBook = play_at device desk at in
-    leaves-descriptor device mixed false desk (with_play desk at (play_begun settings)) fd (Some (record { way = Play; slot = at }))
-    (leaves-with device mixed false desk at (play_begun settings) (λ o. record { counts = safe-begun (play_rate_between device settings) settings; place = here-begun (play_rate_between device settings) (desk_here device desk) settings })
-    (λ runs s v. untold-empty device mixed old (play_begun settings) runs refl refl rate v.pieces v.own)
-    (λ s. given-begun (play_rate_at device old) old settings (position-Some (λ (book : PlayBook). is_play_free book.state) desk.play at (play_unopened device) e).1))
-
-leaves-open_record : (device : DeviceSeen) (mixed : ℕ) (found : Option ℕ) (desk : Desk) (fd : ℕ) (settings : Settings) → LeavesSlots device mixed false desk (open_record found desk fd settings).desk
-leaves-open_record device mixed None desk fd settings = stays device mixed false desk
-leaves-open_record device mixed (Some at) desk fd settings =
-    leaves-descriptor device mixed false desk (with_record desk at (record_begun settings)) fd (Some (record { way = Record; slot = at }))
-    (leaves-record device mixed false desk at (record_begun settings))
-
-leaves-open_map : (device : DeviceSeen) (mixed : ℕ) (found : Option ℕ) (desk : Desk) (fd : ℕ) (settings : Settings) → LeavesSlots device mixed false desk (open_map found desk fd settings).desk
-leaves-open_map device mixed None desk fd settings = stays device mixed false desk
-leaves-open_map device mixed (Some at) desk fd settings =
-    leaves-descriptor device mixed false desk (with_map desk at (map_begun settings)) fd (Some (record { way = Map; slot = at }))
-    (leaves-map device mixed false desk at (map_begun settings))
-
-leaves-open_way : (device : DeviceSeen) (mixed : ℕ) (desk : Desk) (fd : ℕ) (way : Way) (settings : Settings) → IsRate settings.rate
-    → LeavesSlots device mixed false desk (by_way way (open_play (least_free_play desk.play) desk fd settings) (open_record (least_free_record desk.recording) desk fd settings) (open_map (least_free_map desk.mapped) desk fd settings)).desk
-leaves-open_way device mixed desk fd Play settings rate = leaves-open_play device mixed (least_free_play desk.play) desk fd settings rate refl
-leaves-open_way device mixed desk fd Record settings rate = leaves-open_record device mixed (least_free_record desk.recording) desk fd settings
-leaves-open_way device mixed desk fd Map settings rate = leaves-open_map device mixed (least_free_map desk.mapped) desk fd settings
-
--- or is refused
-pub leaves-open_turn : (device : DeviceSeen) (mixed : ℕ) (desk : Desk) (fd : ℕ) (way : Way) (settings : Settings) → IsRate settings.rate → LeavesSlots device mixed false desk (open_turn desk fd way settings).desk
-leaves-open_turn device mixed desk fd way settings rate =
-    elim (is_some (held_by desk fd)) as (λ (b : Bool). LeavesSlots device mixed false desk (cond {A = DeskTurn} b (refusing desk Exist) (by_way way (open_play (least_free_play desk.play) desk fd settings) (open_record (least_free_record desk.recording) desk fd settings) (open_map (least_free_map desk.mapped) desk fd settings))).desk) [
-      | true ↦ stays device mixed false desk
-      | false ↦ leaves-open_way device mixed desk fd way settings rate
-    ]
-
--- an event of a descriptor, whatever it does to a channel of each way
-leaves-turning : (device : DeviceSeen) (mixed : ℕ) (dropping : Bool) (desk : Desk) (play recording mapped : ℕ → DeskTurn) (held : Option Held) → ((slot : ℕ) → LeavesSlots device mixed dropping desk (play slot).desk)
-    → ((slot : ℕ) → LeavesSlots device mixed dropping desk (recording slot).desk) → ((slot : ℕ) → LeavesSlots device mixed dropping desk (mapped slot).desk)
-    → LeavesSlots device mixed dropping desk (turning play recording mapped held desk).desk
-leaves-turning device mixed dropping desk play recording mapped None p r m = stays device mixed dropping desk
-leaves-turning device mixed dropping desk play recording mapped (Some held) p r m =
-    elim held.way as (λ (way : Way). LeavesSlots device mixed dropping desk (by_way way (play held.slot) (recording held.slot) (mapped held.slot)).desk) [
-      | Play ↦ p held.slot
-      | Record ↦ r held.slot
-      | Map ↦ m held.slot
-    ]
-
--- a poke leaves all slots that play
-pub leaves-poke_on : (device : DeviceSeen) (mixed : ℕ) (held : Option Held) (desk : Desk) (offset count : ℕ) → LeavesSlots device mixed false desk (poke_on device held desk offset count).desk
-leaves-poke_on device mixed held desk offset count =
-    leaves-turning device mixed false desk (λ slot. refusing desk Inval) (λ slot. refusing desk Inval) (map_turn device (poke_turn offset count) desk) held (λ slot. stays device mixed false desk)
-    (λ slot. stays device mixed false desk) (λ slot. leaves-map device mixed false desk slot (poke_turn offset count (map_at device desk slot)).book)
-
--- a read leaves all slots that play
-pub leaves-read_on : (device : DeviceSeen) (mixed : ℕ) (held : Option Held) (desk : Desk) (count : ℕ) → LeavesSlots device mixed false desk (read_on device held desk count).desk
-leaves-read_on device mixed held desk count =
-    leaves-turning device mixed false desk (λ slot. refusing desk Inval) (record_turn device (records.read_turn count) desk) (λ slot. refusing desk Inval) held (λ slot. stays device mixed false desk)
-    (λ slot. leaves-record device mixed false desk slot (records.read_turn count (record_at device desk slot)).book) (λ slot. stays device mixed false desk)
 
 -- a request leaves the counts of its book, or nothing of its run
-pub leaves-ioctl_on : (device : DeviceSeen) (mixed : ℕ) (held : Option Held) (desk : Desk) (request : Request) → IsDevice device → HaveRates device desk → LeavesSlots device mixed (asks_drop request) desk (ioctl_on device held desk request).desk
-leaves-ioctl_on device mixed held desk request d rates =
-    let here : Here = desk_here device desk in
+asked_leaves : (device : DeviceSeen) (here : Here) (mixed : ℕ) (dropping : Bool) (request : Request) (book : PlayBook) → IsDevice device → IsRate book.opening.settings.rate → (IsSafeAt device book → KeepsGivenAt device dropping book (asking device here request book).book)
+    → LeavesBook device here mixed dropping book (asking device here request book).book
+asked_leaves device here mixed dropping request book d rate given =
     let mix_rate : ℕ = (mix_settings device).rate in
-    leaves-turning device mixed (asks_drop request) desk (play_turn device (asking device here request) desk) (record_turn device (record_ask request) desk) (map_turn device (map_ask request) desk) held
-    (λ slot.
-    let book : PlayBook = play_at device desk slot in
-    let rate : Rate = play_rate_at device book in
-    let asked : PlayBook = (asking device here request book).book in
-    leaves-with device mixed (asks_drop request) desk slot asked (order-asking device here request book d (rates slot))
-    (λ runs s v. untold-leaves device mixed book asked runs (ask-leaves rate mix_rate here request book s) (ask-rate rate mix_rate here request book v.settings) v)
-    (λ s. given-ask rate mix_rate here request book s))
-    (λ slot. leaves-record device mixed (asks_drop request) desk slot (record_ask request (record_at device desk slot)).book)
-    (λ slot. leaves-map device mixed (asks_drop request) desk slot (map_ask request (map_at device desk slot)).book)
+    record {
+      order = order-asking device here request book d rate;
+      runs = λ runs s v. untold-leaves device mixed book (asking device here request book).book runs (ask-leaves (play_rate_at device book) mix_rate here request book s) (ask-rate (play_rate_at device book) mix_rate here request book v.settings) v;
+      given = given;
+    }
 
--- and so does a close
-pub leaves-close_on : (device : DeviceSeen) (mixed : ℕ) (held : Option Held) (desk : Desk) (fd : ℕ) → IsDevice device → HaveRates device desk → LeavesSlots device mixed false desk (close_on device held desk fd).desk
-leaves-close_on device mixed held desk fd d rates =
-    let here : Here = desk_here device desk in
-    leaves-turning device mixed false desk (close_play device desk fd) (close_record device desk fd) (close_map device desk fd) held
-    (λ slot.
-    let book : PlayBook = play_at device desk slot in
-    let rate : Rate = play_rate_at device book in
-    let closed : PlayBook = closing device here book in
-    leaves-descriptor device mixed false desk (with_play desk slot closed) fd None
-    (leaves-with device mixed false desk slot closed (order-closing device here book d (rates slot))
-    (λ runs s v. untold-leaves device mixed book closed runs (close-leaves rate here book)
-    (subst (λ (settings : Settings). IsRate settings.rate) (sym (close-keeps rate here book).settings) v.settings) v)
-    (λ s. given-close rate here book)))
-    (λ slot.
-    let closed : RecordBook = records.closed (record_at device desk slot) in
-    leaves-descriptor device mixed false desk (with_record desk slot closed) fd None (leaves-record device mixed false desk slot closed))
-    (λ slot.
-    let closed : MapBook = map_closed (map_at device desk slot) in
-    leaves-descriptor device mixed false desk (with_map desk slot closed) fd None (leaves-map device mixed false desk slot closed))
-
--- ---- groups
-
--- who starts with whom has no part in what is left, be it before or after
-leaves-regrouped : (device : DeviceSeen) (mixed : ℕ) (dropping : Bool) (old new : Desk) (before after : Groups) → LeavesSlots device mixed dropping (record old { groups = before }) new → LeavesSlots device mixed dropping old (record new { groups = after })
-leaves-regrouped device mixed dropping old new before after l = record { order = l.order; slots = l.slots; given = l.given; handed_same = l.handed_same; mixed_same = l.mixed_same }
-
--- a request, which may be refused to a member
-pub leaves-request_on : (device : DeviceSeen) (mixed : ℕ) (held : Option Held) (desk : Desk) (request : Request) → IsDevice device → HaveRates device desk → LeavesSlots device mixed (asks_drop request) desk (request_on device held desk request).desk
-leaves-request_on device mixed held desk request d rates =
-    by-asking device (LeavesSlots device mixed (asks_drop request) desk) held desk request (stays device mixed (asks_drop request) desk)
-    (λ groups.
-    let asked : Desk = (ioctl_on device held (record desk { groups = groups }) request).desk in
-    leaves-regrouped device mixed (asks_drop request) desk asked groups asked.groups (leaves-ioctl_on device mixed held (record desk { groups = groups }) request d rates))
-
--- a close, which leaves the group first
-pub leaves-closing : (device : DeviceSeen) (mixed : ℕ) (held : Option Held) (desk : Desk) (fd : ℕ) → IsDevice device → HaveRates device desk → LeavesSlots device mixed false desk (close_on device held (left held desk) fd).desk
-leaves-closing device mixed held desk fd d rates =
-    let closed : Desk = (close_on device held (left held desk) fd).desk in
-    leaves-regrouped device mixed false desk closed (left held desk).groups closed.groups (leaves-close_on device mixed held (left held desk) fd d rates)
+requested : (device : DeviceSeen) (here : Here) (mixed : ℕ) (request : Request) (refusal : Option Errno) (book : PlayBook) → IsDevice device → IsRate book.opening.settings.rate
+    → LeavesBook device here mixed (asks_drop request) book (playing_or book (own_request device here request refusal (Playing book)).book)
+requested device here mixed request None book d rate = asked_leaves device here mixed (asks_drop request) request book d rate (given-ask (play_rate_at device book) (mix_settings device).rate here request book)
+requested device here mixed request (Some errno) book d rate = same_leaves device here mixed (asks_drop request) book
 
 -- a channel that joins a group is before a run, which nothing drops
-leaves-joined : (device : DeviceSeen) (mixed : ℕ) (way : Way) (slot : ℕ) (desk : Desk) → let held : Held = record { way = way; slot = slot } in rests device desk held ≡ true → IsDevice device → HaveRates device desk
-    → LeavesSlots device mixed false desk (ioctl_on device (Some held) desk (SetTrigger 0)).desk
-leaves-joined device mixed Play slot desk resting d rates =
-    let here : Here = desk_here device desk in
-    let mix_rate : ℕ = (mix_settings device).rate in
-    let book : PlayBook = play_at device desk slot in
-    let rate : Rate = play_rate_at device book in
-    let asked : PlayBook = (asking device here (SetTrigger 0) book).book in
-    leaves-with device mixed false desk slot asked (order-asking device here (SetTrigger 0) book d (rates slot))
-    (λ runs s v. untold-leaves device mixed book asked runs (ask-leaves rate mix_rate here (SetTrigger 0) book s) (ask-rate rate mix_rate here (SetTrigger 0) book v.settings) v)
-    (λ s. given-rest rate mix_rate here (SetTrigger 0) book s resting)
-leaves-joined device mixed Record slot desk resting d rates = leaves-record device mixed false desk slot (record_ask (SetTrigger 0) (record_at device desk slot)).book
-leaves-joined device mixed Map slot desk resting d rates = leaves-map device mixed false desk slot (map_ask (SetTrigger 0) (map_at device desk slot)).book
+joined : (device : DeviceSeen) (here : Here) (mixed : ℕ) (result : Result ℕ Errno) (resting : Bool) (book : PlayBook) → rests (Playing book) ≡ resting → IsDevice device → IsRate book.opening.settings.rate
+    → LeavesBook device here mixed false book (playing_or book (own_join device here (join_result result resting) (Playing book)).book)
+joined device here mixed (Ok group) true book e d rate = asked_leaves device here mixed false (SetTrigger 0) book d rate (λ s. given-rest (play_rate_at device book) (mix_settings device).rate here (SetTrigger 0) book s e)
+joined device here mixed (Ok group) false book e d rate = same_leaves device here mixed false book
+joined device here mixed (Err errno) resting book e d rate = same_leaves device here mixed false book
 
-pub leaves-join_on : (device : DeviceSeen) (mixed : ℕ) (held : Option Held) (desk : Desk) (group : ℕ) → IsDevice device → HaveRates device desk → LeavesSlots device mixed false desk (join_on device held desk group).desk
-leaves-join_on device mixed held desk group d rates =
-    by-joining device (λ (t : DeskTurn). LeavesSlots device mixed false desk t.desk) held desk group (λ errno. stays device mixed false desk)
-    (λ mine number e resting.
-    let asked : Desk = (ioctl_on device (Some mine) desk (SetTrigger 0)).desk in
-    let l = leaves-joined device mixed mine.way mine.slot desk resting d rates in
-    record { order = l.order; slots = l.slots; given = l.given; handed_same = l.handed_same; mixed_same = l.mixed_same })
+closed_leaves : (device : DeviceSeen) (here : Here) (mixed : ℕ) (book : PlayBook) → IsDevice device → IsRate book.opening.settings.rate → LeavesBook device here mixed false book (closing device here book)
+closed_leaves device here mixed book d rate = record {
+  order = order-closing device here book d rate;
+  runs = λ runs s v. untold-leaves device mixed book (closing device here book) runs (close-leaves (play_rate_at device book) here book)
+      (subst (λ (settings : Settings). IsRate settings.rate) (sym (close-keeps (play_rate_at device book) here book).settings) v.settings) v;
+  given = λ s. given-close (play_rate_at device book) here book;
+}
 
--- a book that starts, or stays
-either : {X : Type 0} (P : X → Type 0) (b : Bool) (x y : X) → P x → P y → P (cond b x y)
-either P true x y px py = px
-either P false x y px py = py
+-- an event that brings no bytes and takes no frames
+abbrev IsQuiet : Event → Type 0
+IsQuiet (Write fd source at count) = ⊥
+IsQuiet (Intr n) = ⊥
+IsQuiet event = Unit {0}
 
--- all members of a group start
-leaves-started : (device : DeviceSeen) (mixed : ℕ) (desk : Desk) (group : ℕ) → 0 < group → IsDevice device → HaveRates device desk → LeavesSlots device mixed false desk (group_started device desk group)
-leaves-started device mixed desk group some d rates = record {
-  order = λ slot o. subst (IsInOrder device here) (sym (play_at-started device desk group slot some))
-      (either (IsInOrder device here) (is_member_of slot) (starts slot) (old slot) (order-asking device here (SetTrigger both_bits) (old slot) d (rates slot) o) o);
-  slots = λ slot runs s v.
-      let Untold : PlayBook → Type 0 = λ new. IsUntold device mixed (old slot) new runs in
-      subst Untold (sym (play_at-started device desk group slot some))
-      (either Untold (is_member_of slot) (starts slot) (old slot)
-      (untold-leaves device mixed (old slot) (starts slot) runs (ask-leaves (rate slot) mix_rate here (SetTrigger both_bits) (old slot) s) (ask-rate (rate slot) mix_rate here (SetTrigger both_bits) (old slot) v.settings) v)
-      (untold-same device mixed (old slot) runs v));
-  given = λ slot s.
-      let Kept : PlayBook → Type 0 = KeepsGivenAt device false (old slot) in
-      subst Kept (sym (play_at-started device desk group slot some))
-      (either Kept (is_member_of slot) (starts slot) (old slot) (given-ask (rate slot) mix_rate here (SetTrigger both_bits) (old slot) s) (given-same (rate slot) false (old slot)));
-  handed_same = refl;
-  mixed_same = refl;
+-- an opening has a rate within the limits
+abbrev pub OpensWithin : Event → Type 0
+OpensWithin (Open fd way settings) = IsRate settings.rate
+OpensWithin event = Unit {0}
+
+turn_leaves : (device : DeviceSeen) (desk : Desk) (slot : ℕ) (event : Event) → IsQuiet event → IsDevice device → IsRate (play_at device desk slot).opening.settings.rate
+    → let book : PlayBook = play_at device desk slot in
+    LeavesBook device (desk_here device desk) desk.mixed (drops event) book (playing_or book (own_turn device desk.handed (grouping_at device desk (channel_named Play slot)) event (Playing book)).book)
+turn_leaves device desk slot (Open fd way settings) quiet d rate = same_leaves device (desk_here device desk) desk.mixed false (play_at device desk slot)
+turn_leaves device desk slot (Write fd source at count) quiet d rate = absurd quiet
+turn_leaves device desk slot (Poke fd offset at count) quiet d rate = same_leaves device (desk_here device desk) desk.mixed false (play_at device desk slot)
+turn_leaves device desk slot (Read fd count) quiet d rate = same_leaves device (desk_here device desk) desk.mixed false (play_at device desk slot)
+turn_leaves device desk slot (Ioctl fd request) quiet d rate = requested device (desk_here device desk) desk.mixed request (member_refusal (is_member desk (channel_named Play slot)) request) (play_at device desk slot) d rate
+turn_leaves device desk slot (Join fd group) quiet d rate = joined device (desk_here device desk) desk.mixed (joining desk.groups Play slot group) (rests (Playing (play_at device desk slot))) (play_at device desk slot) refl d rate
+turn_leaves device desk slot (StartGroup fd group) quiet d rate = same_leaves device (desk_here device desk) desk.mixed false (play_at device desk slot)
+turn_leaves device desk slot (Close fd) quiet d rate = closed_leaves device (desk_here device desk) desk.mixed (play_at device desk slot) d rate
+turn_leaves device desk slot (Mixer request) quiet d rate = same_leaves device (desk_here device desk) desk.mixed false (play_at device desk slot)
+turn_leaves device desk slot (Intr n) quiet d rate = absurd quiet
+
+quiet_frames : (event : Event) → IsQuiet event → frames_taken event ≡ 0
+quiet_frames (Intr n) quiet = absurd quiet
+quiet_frames _ quiet = refl
+
+-- the slots after such an event
+leaves : (device : DeviceSeen) (desk : Desk) (event : Event) → OpensWithin event → IsQuiet event → IsDevice device → HaveRates device desk → LeavesSlots device desk.mixed (drops event) desk (after device desk event).desk
+leaves device desk event fits quiet d rates = record {
+  slots = slots;
+  handed_same = let taken = handed-taken device desk event in let none = quiet_frames event quiet in omega (arith, taken, none);
+  mixed_same = mixed-same device desk event (λ n is. subst IsQuiet is quiet);
 }
   where
     here : Here
     here = desk_here device desk
 
-    mix_rate : ℕ
-    mix_rate = (mix_settings device).rate
+    begins : (event : Event) (fd : ℕ) (way : Way) (settings : Settings) (old : PlayBook) → event ≡ Open fd way settings → Play ≡ way → OpensWithin event → is_play_free old.state ≡ true
+        → LeavesBook device here desk.mixed (drops event) old (playing_or old (channel_begun way settings))
+    begins event fd way settings old is same fits free =
+        subst (λ (e : Event). LeavesBook device here desk.mixed (drops e) old (playing_or old (channel_begun way settings))) (sym is)
+        (subst (λ (w : Way). LeavesBook device here desk.mixed false old (playing_or old (channel_begun w settings))) same (begun_leaves device here desk.mixed old settings (subst OpensWithin is fits) free))
 
-    old : ℕ → PlayBook
-    old slot = play_at device desk slot
+    starts : (event : Event) (fd group : ℕ) (old : PlayBook) → event ≡ StartGroup fd group → IsRate old.opening.settings.rate → LeavesBook device here desk.mixed (drops event) old (play_starting device here old)
+    starts event fd group old is rate =
+        subst (λ (e : Event). LeavesBook device here desk.mixed (drops e) old (play_starting device here old)) (sym is)
+        (asked_leaves device here desk.mixed false (SetTrigger both_bits) old d rate (given-ask (play_rate_at device old) (mix_settings device).rate here (SetTrigger both_bits) old))
 
-    rate : ℕ → Rate
-    rate slot = play_rate_at device (old slot)
-
-    starts : ℕ → PlayBook
-    starts slot = (asking device here (SetTrigger both_bits) (old slot)).book
-
-    is_member_of : ℕ → Bool
-    is_member_of slot = eqb (get_or desk.groups.play slot 0) group
-
-pub leaves-start_on : (device : DeviceSeen) (mixed : ℕ) (held : Option Held) (desk : Desk) (group : ℕ) → IsDevice device → HaveRates device desk → LeavesSlots device mixed false desk (start_on device held desk group).desk
-leaves-start_on device mixed held desk group d rates =
-    by-starting device (λ (t : DeskTurn). LeavesSlots device mixed false desk t.desk) held desk group (λ errno. stays device mixed false desk)
-    (λ used ready. leaves-started device mixed desk group (used-some desk.groups group used) d rates)
-
--- what the mixer device is asked leaves all slots
-pub leaves-mixer_turn : (device : DeviceSeen) (mixed : ℕ) (desk : Desk) (request : MixRequest) → LeavesSlots device mixed false desk (mixer_turn device desk request).desk
-leaves-mixer_turn device mixed desk request = let l = stays device mixed false desk in record { order = l.order; slots = l.slots; given = l.given; handed_same = refl; mixed_same = refl }
+    slots : (slot : ℕ) → LeavesBook device here desk.mixed (drops event) (play_at device desk slot) (play_at device (after device desk event).desk slot)
+    slots slot =
+        let old : PlayBook = play_at device desk slot in
+        channel-after device desk event (channel_named Play slot) (λ (c : Channel). LeavesBook device here desk.mixed (drops event) old (playing_or old c))
+        (same_leaves device here desk.mixed (drops event) old) (turn_leaves device desk slot event quiet d (rates slot))
+        (λ fd way settings is same free. begins event fd way settings old is same fits free)
+        (λ fd group is member. starts event fd group old is (rates slot))
 
 -- ---- writes
 
 -- a write leaves each slot's book with some of its bytes, or as it was
-pub record Writes (device : DeviceSeen) (length : ℕ) (old new : Desk) : Type 0 where
-  pub slots : (slot : ℕ) → WritesSome length (play_at device old slot) (play_at device new slot)
-  pub handed_same : new.handed ≡ old.handed
-  pub mixed_same : new.mixed ≡ old.mixed
-
-writes_none : (device : DeviceSeen) (desk : Desk) (length : ℕ) → Writes device length desk desk
-writes_none device desk length = record { slots = λ slot. writes-nothing length (play_at device desk slot); handed_same = refl; mixed_same = refl }
-
-writes_at : (device : DeviceSeen) (desk : Desk) (length at : ℕ) → Writes device length desk (play_turn device (write_turn (desk_here device desk) length) desk at).desk
-writes_at device desk length at =
-    let before : PlayBook = play_at device desk at in
-    let book : PlayBook = (write_turn (desk_here device desk) length before).book in
-    record {
-      slots = λ slot. elim (play_at-with device desk at slot book) [
-        | inl here ↦ subst (λ (b : PlayBook). WritesSome length (play_at device desk slot) b) (sym here.1)
-            (subst (λ (s : ℕ). WritesSome length (play_at device desk s) book) (sym here.0) (write_turn-writes (desk_here device desk) length before))
-        | inr same ↦ subst (λ (b : PlayBook). WritesSome length (play_at device desk slot) b) (sym same) (writes-nothing length (play_at device desk slot))
-      ];
-      handed_same = refl;
-      mixed_same = refl;
-    }
-
-pub writes-write_on : (device : DeviceSeen) (held : Option Held) (desk : Desk) (length : ℕ) → Writes device length desk (write_on device held desk length).desk
-writes-write_on device None desk length = writes_none device desk length
-writes-write_on device (Some held) desk length =
-    elim held.way as (λ (way : Way). Writes device length desk (by_way way (play_turn device (write_turn (desk_here device desk) length) desk held.slot) (refusing desk Inval) (refusing desk Inval)).desk) [
-      | Play ↦ writes_at device desk length held.slot
-      | Record ↦ writes_none device desk length
-      | Map ↦ writes_none device desk length
-    ]
+pub writes-some : (device : DeviceSeen) (desk : Desk) (fd : ℕ) (source : Source) (at count slot : ℕ) → WritesSome count (play_at device desk slot) (play_at device (after device desk (Write fd source at count)).desk slot)
+writes-some device desk fd source at count slot =
+    let old : PlayBook = play_at device desk slot in
+    channel-after device desk (Write fd source at count) (channel_named Play slot) (λ (c : Channel). WritesSome count old (playing_or old c)) (writes-nothing count old) (write_turn-writes (desk_here device desk) count old)
+    (λ k way settings is same free. cc) (λ k group is member. cc)
 
 -- and books in order
-order_written_at : (device : DeviceSeen) (desk : Desk) (count at slot : ℕ) → IsDevice device → HaveRates device desk → let here : Here = desk_here device desk in IsInOrder device here (play_at device desk slot)
-    → IsInOrder device here (play_at device (play_turn device (write_turn here count) desk at).desk slot)
-order_written_at device desk count at slot d rates o =
-    let here : Here = desk_here device desk in
-    let book : PlayBook = play_at device desk at in
-    order-with device here desk at slot (write_turn here count book).book o
-    (λ e. order-written device here count book d (rates at) (subst (λ (k : ℕ). IsInOrder device here (play_at device desk k)) e o))
-
-pub order-write_on : (device : DeviceSeen) (held : Option Held) (desk : Desk) (count slot : ℕ) → IsDevice device → HaveRates device desk → IsInOrder device (desk_here device desk) (play_at device desk slot)
-    → IsInOrder device (desk_here device desk) (play_at device (write_on device held desk count).desk slot)
-order-write_on device None desk count slot d rates o = o
-order-write_on device (Some held) desk count slot d rates o =
-    let here : Here = desk_here device desk in
-    elim held.way as (λ (way : Way). IsInOrder device here (play_at device (by_way way (play_turn device (write_turn here count) desk held.slot) (refusing desk Inval) (refusing desk Inval)).desk slot)) [
-      | Play ↦ order_written_at device desk count held.slot slot d rates o
-      | Record ↦ o
-      | Map ↦ o
-    ]
+order_write : (device : DeviceSeen) (desk : Desk) (fd : ℕ) (source : Source) (at count slot : ℕ) → IsDevice device → HaveRates device desk → IsInOrder device (desk_here device desk) (play_at device desk slot)
+    → IsInOrder device (desk_here device desk) (play_at device (after device desk (Write fd source at count)).desk slot)
+order_write device desk fd source at count slot d rates o =
+    let old : PlayBook = play_at device desk slot in
+    channel-after device desk (Write fd source at count) (channel_named Play slot) (λ (c : Channel). IsInOrder device (desk_here device desk) (playing_or old c)) o (order-written device (desk_here device desk) count old d (rates slot) o)
+    (λ k way settings is same free. cc) (λ k group is member. cc)
 
 -- as many bytes as are asked for are there
 pub length-bytes_at : (pool : Pool) (source : Source) (at count : ℕ) → at + count ≤ length (source_bytes pool source) → length (bytes_at pool source at count) ≡ count
@@ -511,7 +321,7 @@ untold_written : (device : DeviceSeen) (mixed : ℕ) (pool : Pool) (source : Sou
 untold_written device mixed pool source at count old new runs d h w v =
     untold-taking device mixed (bytes_at pool source at (new.written - old.written)) old new runs d (written_accepts pool source at count old new h w) (written_undrained pool source at count old new w) v
 
--- the runs of a slot after an event, before the newest is told of it
+-- the runs of a slot after an event, before it marks the newest
 abbrev pub carried_at : DeviceSeen → Pool → Story → Event → ℕ → List Run
 carried_at device pool story event slot =
     carrying device pool story.desk event (play_at device story.desk slot) (play_at device (after device story.desk event).desk slot) (story.runs slot)
@@ -535,78 +345,54 @@ order_of : (device : DeviceSeen) (story : Story) (slot : ℕ) → StoryIsValid d
 order_of device story slot v = record { counts = v.safe slot; place = v.here slot }
 
 -- an event that leaves the slots valid, and their runs as they are
-keeps-left : (device : DeviceSeen) (pool : Pool) (story : Story) (event : Event) → LeavesSlots device story.desk.mixed (drops event) story.desk (after device story.desk event).desk
+keeps_left : (device : DeviceSeen) (pool : Pool) (story : Story) (event : Event) → OpensWithin event → IsQuiet event
     → ((slot : ℕ) → story.runs slot ≡ carried_at device pool story event slot) → StoryIsValid device story → Keeps device pool story event
-keeps-left device pool story event l same v = record {
-  order = λ slot. l.order slot (order_of device story slot v);
-  slots = λ slot. subst (SlotIsUntold device story.desk.mixed story.desk (after device story.desk event).desk slot) (same slot) (l.slots slot (story.runs slot) (v.safe slot) (v.slots slot));
+keeps_left device pool story event fits quiet same v = record {
+  order = λ slot. (l.slots slot).order (order_of device story slot v);
+  slots = λ slot. subst (SlotIsUntold device story.desk.mixed story.desk (after device story.desk event).desk slot) (same slot) (untold slot);
   placed = λ slot.
       let old : PlayBook = play_at device story.desk slot in
       let new : PlayBook = play_at device (after device story.desk event).desk slot in
       subst (λ (runs : List Run). SlotIsPlaced device story.desk.mixed new (marking story.desk.mixed event old new runs)) (same slot)
-      (placed-left device story.desk.mixed event old new (story.runs slot) v.limits (v.safe slot) (v.slots slot) (l.given slot (v.safe slot)) (l.slots slot (story.runs slot) (v.safe slot) (v.slots slot)) (v.placed slot));
+      (placed-left device story.desk.mixed event old new (story.runs slot) v.limits (v.safe slot) (v.slots slot) ((l.slots slot).given (v.safe slot)) (untold slot) (v.placed slot));
   handed_same = l.handed_same;
   mixed_same = l.mixed_same;
 }
+  where
+    l : LeavesSlots device story.desk.mixed (drops event) story.desk (after device story.desk event).desk
+    l = leaves device story.desk event fits quiet v.limits (rates_of device story v)
 
-keeps-open : (device : DeviceSeen) (pool : Pool) (story : Story) (fd : ℕ) (way : Way) (settings : Settings) → IsRate settings.rate → StoryIsValid device story → Keeps device pool story (Open fd way settings)
-keeps-open device pool story fd way settings rate v =
-    keeps-left device pool story (Open fd way settings) (leaves-open_turn device story.desk.mixed story.desk fd way settings rate) (λ slot. refl) v
+    untold : (slot : ℕ) → SlotIsUntold device story.desk.mixed story.desk (after device story.desk event).desk slot (story.runs slot)
+    untold slot = (l.slots slot).runs (story.runs slot) (v.safe slot) (v.slots slot)
 
-keeps-write : (device : DeviceSeen) (pool : Pool) (story : Story) (fd : ℕ) (source : Source) (at count : ℕ) → at + count ≤ length (source_bytes pool source) → StoryIsValid device story → Keeps device pool story (Write fd source at count)
-keeps-write device pool story fd source at count h v =
-    let w = writes-write_on device (held_by story.desk fd) story.desk count in
-    let new : Desk = (write_on device (held_by story.desk fd) story.desk count).desk in
+keeps_write : (device : DeviceSeen) (pool : Pool) (story : Story) (fd : ℕ) (source : Source) (at count : ℕ) → at + count ≤ length (source_bytes pool source) → StoryIsValid device story → Keeps device pool story (Write fd source at count)
+keeps_write device pool story fd source at count h v =
+    let event : Event = Write fd source at count in
+    let new : Desk = (after device story.desk event).desk in
     record {
-      order = λ slot. order-write_on device (held_by story.desk fd) story.desk count slot v.limits (rates_of device story v) (order_of device story slot v);
-      slots = λ slot. untold_written device story.desk.mixed pool source at count (play_at device story.desk slot) (play_at device new slot) (story.runs slot) v.limits h (w.slots slot) (v.slots slot);
+      order = λ slot. order_write device story.desk fd source at count slot v.limits (rates_of device story v) (order_of device story slot v);
+      slots = λ slot. untold_written device story.desk.mixed pool source at count (play_at device story.desk slot) (play_at device new slot) (story.runs slot) v.limits h (writes-some device story.desk fd source at count slot) (v.slots slot);
       placed = λ slot.
           let old : PlayBook = play_at device story.desk slot in
           let now : PlayBook = play_at device new slot in
-          placed-taken device story.desk.mixed (Write fd source at count) (bytes_at pool source at (now.written - old.written)) old now (story.runs slot) v.limits (v.safe slot) (v.slots slot)
-          (written_accepts pool source at count old now h (w.slots slot)) (written_undrained pool source at count old now (w.slots slot)) (v.placed slot);
-      handed_same = w.handed_same;
-      mixed_same = w.mixed_same;
+          let some = writes-some device story.desk fd source at count slot in
+          placed-taken device story.desk.mixed event (bytes_at pool source at (now.written - old.written)) old now (story.runs slot) v.limits (v.safe slot) (v.slots slot)
+          (written_accepts pool source at count old now h some) (written_undrained pool source at count old now some) (v.placed slot);
+      handed_same = let taken = handed-taken device story.desk event in omega (arith, taken);
+      mixed_same = mixed-same device story.desk event (λ n is. cc);
     }
-
-keeps-poke : (device : DeviceSeen) (pool : Pool) (story : Story) (fd offset at count : ℕ) → StoryIsValid device story → Keeps device pool story (Poke fd offset at count)
-keeps-poke device pool story fd offset at count v =
-    keeps-left device pool story (Poke fd offset at count) (leaves-poke_on device story.desk.mixed (held_by story.desk fd) story.desk offset count) (λ slot. refl) v
-
-keeps-read : (device : DeviceSeen) (pool : Pool) (story : Story) (fd count : ℕ) → StoryIsValid device story → Keeps device pool story (Read fd count)
-keeps-read device pool story fd count v =
-    keeps-left device pool story (Read fd count) (leaves-read_on device story.desk.mixed (held_by story.desk fd) story.desk count) (λ slot. refl) v
-
-keeps-ioctl : (device : DeviceSeen) (pool : Pool) (story : Story) (fd : ℕ) (request : Request) → StoryIsValid device story → Keeps device pool story (Ioctl fd request)
-keeps-ioctl device pool story fd request v =
-    keeps-left device pool story (Ioctl fd request) (leaves-request_on device story.desk.mixed (held_by story.desk fd) story.desk request v.limits (rates_of device story v)) (λ slot. refl) v
-
-keeps-join : (device : DeviceSeen) (pool : Pool) (story : Story) (fd group : ℕ) → StoryIsValid device story → Keeps device pool story (Join fd group)
-keeps-join device pool story fd group v =
-    keeps-left device pool story (Join fd group) (leaves-join_on device story.desk.mixed (held_by story.desk fd) story.desk group v.limits (rates_of device story v)) (λ slot. refl) v
-
-keeps-start : (device : DeviceSeen) (pool : Pool) (story : Story) (fd group : ℕ) → StoryIsValid device story → Keeps device pool story (StartGroup fd group)
-keeps-start device pool story fd group v =
-    keeps-left device pool story (StartGroup fd group) (leaves-start_on device story.desk.mixed (held_by story.desk fd) story.desk group v.limits (rates_of device story v)) (λ slot. refl) v
-
-keeps-close : (device : DeviceSeen) (pool : Pool) (story : Story) (fd : ℕ) → StoryIsValid device story → Keeps device pool story (Close fd)
-keeps-close device pool story fd v =
-    keeps-left device pool story (Close fd) (leaves-closing device story.desk.mixed (held_by story.desk fd) story.desk fd v.limits (rates_of device story v)) (λ slot. refl) v
-
-keeps-mixer : (device : DeviceSeen) (pool : Pool) (story : Story) (request : MixRequest) → StoryIsValid device story → Keeps device pool story (Mixer request)
-keeps-mixer device pool story request v = keeps-left device pool story (Mixer request) (leaves-mixer_turn device story.desk.mixed story.desk request) (λ slot. refl) v
 
 -- such an event leaves the counts of the device
 pub keeps : (device : DeviceSeen) (pool : Pool) (story : Story) (event : Event) → Fits device pool event → frames_taken event ≡ 0 → StoryIsValid device story → Keeps device pool story event
-keeps device pool story (Open fd way settings) fits none v = keeps-open device pool story fd way settings fits.1 v
-keeps device pool story (Write fd source at count) fits none v = keeps-write device pool story fd source at count fits.2.within v
-keeps device pool story (Poke fd offset at count) fits none v = keeps-poke device pool story fd offset at count v
-keeps device pool story (Read fd count) fits none v = keeps-read device pool story fd count v
-keeps device pool story (Ioctl fd request) fits none v = keeps-ioctl device pool story fd request v
-keeps device pool story (Join fd group) fits none v = keeps-join device pool story fd group v
-keeps device pool story (StartGroup fd group) fits none v = keeps-start device pool story fd group v
-keeps device pool story (Close fd) fits none v = keeps-close device pool story fd v
-keeps device pool story (Mixer request) fits none v = keeps-mixer device pool story request v
+keeps device pool story (Open fd way settings) fits none v = keeps_left device pool story (Open fd way settings) fits.1 tt (λ slot. refl) v
+keeps device pool story (Write fd source at count) fits none v = keeps_write device pool story fd source at count fits.2.within v
+keeps device pool story (Poke fd offset at count) fits none v = keeps_left device pool story (Poke fd offset at count) tt tt (λ slot. refl) v
+keeps device pool story (Read fd count) fits none v = keeps_left device pool story (Read fd count) tt tt (λ slot. refl) v
+keeps device pool story (Ioctl fd request) fits none v = keeps_left device pool story (Ioctl fd request) tt tt (λ slot. refl) v
+keeps device pool story (Join fd group) fits none v = keeps_left device pool story (Join fd group) tt tt (λ slot. refl) v
+keeps device pool story (StartGroup fd group) fits none v = keeps_left device pool story (StartGroup fd group) tt tt (λ slot. refl) v
+keeps device pool story (Close fd) fits none v = keeps_left device pool story (Close fd) tt tt (λ slot. refl) v
+keeps device pool story (Mixer request) fits none v = keeps_left device pool story (Mixer request) tt tt (λ slot. refl) v
 keeps device pool story (Intr n) fits none v = absurd (let some = fits.0 in omega arith)
 
 -- a volume that isn't set stays
@@ -676,7 +462,7 @@ maps-kept device pool story event fits none same v slot =
     (subst (λ (runs : List Run). MapIsValid device story.desk.mixed new (map_marking story.desk.mixed old new runs)) (sym (map-untaken device pool story.desk event old (story.areas slot) (story.map_runs slot) fits none))
     (map-marked device story.desk.mixed old new (story.map_runs slot) (keeps-maps device pool story.desk event fits none slot) (v.maps slot)))
 
--- a slot of the next desk is valid once its newest run was told of the event
+-- a slot of the next desk is valid once the event has marked its newest run
 valid-at : (device : DeviceSeen) (pool : Pool) (story : Story) (event : Event) (mixed slot : ℕ) → IsDevice device → (after device story.desk event).desk.mixed ≡ mixed
     → SlotIsUntold device mixed story.desk (after device story.desk event).desk slot (carried_at device pool story event slot)
     → SlotIsValid device (after device story.desk event).desk.mixed (play_at device (after device story.desk event).desk slot) ((told device pool story event).runs slot)
@@ -716,30 +502,26 @@ order_passed : (device : DeviceSeen) (desk : Desk) (n slot : ℕ) → IsDevice d
 order_passed device desk n slot d rates o =
     subst (IsInOrder device (here_at device (desk.handed + n))) (sym (play_at-passing device desk n slot)) (order-passing device desk.handed n (play_at device desk slot) d (rates slot) o)
 
-order_left : (device : DeviceSeen) (dropping : Bool) (old new : Desk) (slot : ℕ) → LeavesSlots device 0 dropping old new → IsInOrder device (desk_here device old) (play_at device old slot) → IsInOrder device (desk_here device new) (play_at device new slot)
-order_left device dropping old new slot l o = subst (λ (handed : ℕ). IsInOrder device (here_at device handed) (play_at device new slot)) (sym l.handed_same) (l.order slot o)
-
--- an opening has a rate within the limits
-abbrev pub OpensWithin : Event → Type 0
-OpensWithin (Open fd way settings) = IsRate settings.rate
-OpensWithin event = Unit {0}
+order_quiet : (device : DeviceSeen) (desk : Desk) (event : Event) (slot : ℕ) → IsQuiet event → IsDevice device → OpensWithin event → HaveRates device desk → IsInOrder device (desk_here device desk) (play_at device desk slot)
+    → IsInOrder device (desk_here device (after device desk event).desk) (play_at device (after device desk event).desk slot)
+order_quiet device desk event slot quiet d fits rates o =
+    let l = leaves device desk event fits quiet d rates in
+    subst (λ (handed : ℕ). IsInOrder device (here_at device handed) (play_at device (after device desk event).desk slot)) (sym l.handed_same) ((l.slots slot).order o)
 
 -- books stay in order through every event, if what is opened has such a rate
 pub order-after : (device : DeviceSeen) (desk : Desk) (event : Event) (slot : ℕ) → IsDevice device → OpensWithin event → HaveRates device desk → IsInOrder device (desk_here device desk) (play_at device desk slot)
     → IsInOrder device (desk_here device (after device desk event).desk) (play_at device (after device desk event).desk slot)
-order-after device desk (Open fd way settings) slot d fits rates o = order_left device false desk (open_turn desk fd way settings).desk slot (leaves-open_turn device 0 desk fd way settings fits) o
+order-after device desk (Open fd way settings) slot d fits rates o = order_quiet device desk (Open fd way settings) slot tt d fits rates o
 order-after device desk (Write fd source at count) slot d fits rates o =
-    let new : Desk = (write_on device (held_by desk fd) desk count).desk in
-    subst (λ (handed : ℕ). IsInOrder device (here_at device handed) (play_at device new slot)) (sym (writes-write_on device (held_by desk fd) desk count).handed_same)
-    (order-write_on device (held_by desk fd) desk count slot d rates o)
-order-after device desk (Poke fd offset at count) slot d fits rates o = order_left device false desk (poke_on device (held_by desk fd) desk offset count).desk slot (leaves-poke_on device 0 (held_by desk fd) desk offset count) o
-order-after device desk (Read fd count) slot d fits rates o = order_left device false desk (read_on device (held_by desk fd) desk count).desk slot (leaves-read_on device 0 (held_by desk fd) desk count) o
-order-after device desk (Ioctl fd request) slot d fits rates o =
-    order_left device (asks_drop request) desk (request_on device (held_by desk fd) desk request).desk slot (leaves-request_on device 0 (held_by desk fd) desk request d rates) o
-order-after device desk (Join fd group) slot d fits rates o = order_left device false desk (join_on device (held_by desk fd) desk group).desk slot (leaves-join_on device 0 (held_by desk fd) desk group d rates) o
-order-after device desk (StartGroup fd group) slot d fits rates o = order_left device false desk (start_on device (held_by desk fd) desk group).desk slot (leaves-start_on device 0 (held_by desk fd) desk group d rates) o
-order-after device desk (Close fd) slot d fits rates o =
-    order_left device false desk (close_on device (held_by desk fd) (left (held_by desk fd) desk) fd).desk slot (leaves-closing device 0 (held_by desk fd) desk fd d rates) o
+    let event : Event = Write fd source at count in
+    let same : (after device desk event).desk.handed ≡ desk.handed = let taken = handed-taken device desk event in omega (arith, taken) in
+    subst (λ (handed : ℕ). IsInOrder device (here_at device handed) (play_at device (after device desk event).desk slot)) (sym same) (order_write device desk fd source at count slot d rates o)
+order-after device desk (Poke fd offset at count) slot d fits rates o = order_quiet device desk (Poke fd offset at count) slot tt d tt rates o
+order-after device desk (Read fd count) slot d fits rates o = order_quiet device desk (Read fd count) slot tt d tt rates o
+order-after device desk (Ioctl fd request) slot d fits rates o = order_quiet device desk (Ioctl fd request) slot tt d tt rates o
+order-after device desk (Join fd group) slot d fits rates o = order_quiet device desk (Join fd group) slot tt d tt rates o
+order-after device desk (StartGroup fd group) slot d fits rates o = order_quiet device desk (StartGroup fd group) slot tt d tt rates o
+order-after device desk (Close fd) slot d fits rates o = order_quiet device desk (Close fd) slot tt d tt rates o
 order-after device desk (Mixer request) slot d fits rates o = o
 order-after device desk (Intr n) slot d fits rates o = order_passed device desk n slot d rates o
 
@@ -781,15 +563,15 @@ valid-interrupted device pool story n v = record {
 
 -- a story stays valid through an event that fits
 pub valid-told : (device : DeviceSeen) (pool : Pool) (story : Story) (event : Event) → Fits device pool event → StoryIsValid device story → StoryIsValid device (told device pool story event)
-valid-told device pool story (Open fd way settings) fits v = valid-kept device pool story (Open fd way settings) fits refl (keeps-open device pool story fd way settings fits.1 v) v
-valid-told device pool story (Write fd source at count) fits v = valid-kept device pool story (Write fd source at count) fits refl (keeps-write device pool story fd source at count fits.2.within v) v
-valid-told device pool story (Poke fd offset at count) fits v = valid-kept device pool story (Poke fd offset at count) fits refl (keeps-poke device pool story fd offset at count v) v
-valid-told device pool story (Read fd count) fits v = valid-kept device pool story (Read fd count) fits refl (keeps-read device pool story fd count v) v
-valid-told device pool story (Ioctl fd request) fits v = valid-kept device pool story (Ioctl fd request) fits refl (keeps-ioctl device pool story fd request v) v
-valid-told device pool story (Join fd group) fits v = valid-kept device pool story (Join fd group) fits refl (keeps-join device pool story fd group v) v
-valid-told device pool story (StartGroup fd group) fits v = valid-kept device pool story (StartGroup fd group) fits refl (keeps-start device pool story fd group v) v
-valid-told device pool story (Close fd) fits v = valid-kept device pool story (Close fd) fits refl (keeps-close device pool story fd v) v
-valid-told device pool story (Mixer request) fits v = valid-kept device pool story (Mixer request) fits refl (keeps-mixer device pool story request v) v
+valid-told device pool story (Open fd way settings) fits v = valid-kept device pool story (Open fd way settings) fits refl (keeps device pool story (Open fd way settings) fits refl v) v
+valid-told device pool story (Write fd source at count) fits v = valid-kept device pool story (Write fd source at count) fits refl (keeps device pool story (Write fd source at count) fits refl v) v
+valid-told device pool story (Poke fd offset at count) fits v = valid-kept device pool story (Poke fd offset at count) fits refl (keeps device pool story (Poke fd offset at count) fits refl v) v
+valid-told device pool story (Read fd count) fits v = valid-kept device pool story (Read fd count) fits refl (keeps device pool story (Read fd count) fits refl v) v
+valid-told device pool story (Ioctl fd request) fits v = valid-kept device pool story (Ioctl fd request) fits refl (keeps device pool story (Ioctl fd request) fits refl v) v
+valid-told device pool story (Join fd group) fits v = valid-kept device pool story (Join fd group) fits refl (keeps device pool story (Join fd group) fits refl v) v
+valid-told device pool story (StartGroup fd group) fits v = valid-kept device pool story (StartGroup fd group) fits refl (keeps device pool story (StartGroup fd group) fits refl v) v
+valid-told device pool story (Close fd) fits v = valid-kept device pool story (Close fd) fits refl (keeps device pool story (Close fd) fits refl v) v
+valid-told device pool story (Mixer request) fits v = valid-kept device pool story (Mixer request) fits refl (keeps device pool story (Mixer request) fits refl v) v
 valid-told device pool story (Intr n) fits v = valid-interrupted device pool story n v
 
 -- each element of copies is the copied one
@@ -840,7 +622,7 @@ sounding-carrying device pool story (Write fd source at count) gain slot positio
     let old : PlayBook = play_at device story.desk slot in
     let new : PlayBook = play_at device (after device story.desk (Write fd source at count)).desk slot in
     sounding-taking device gain story.desk.mixed position (bytes_at pool source at (new.written - old.written)) old (story.runs slot) v.limits (v.slots slot)
-    (written_undrained pool source at count old new ((writes-write_on device (held_by story.desk fd) story.desk count).slots slot))
+    (written_undrained pool source at count old new (writes-some device story.desk fd source at count slot))
 sounding-carrying device pool story (Poke fd offset at count) gain slot position v h = refl
 sounding-carrying device pool story (Read fd count) gain slot position v h = refl
 sounding-carrying device pool story (Ioctl fd request) gain slot position v h = refl

@@ -27,9 +27,10 @@ use Rattle.pcm_desk.specs.PlayRequests.{play_roused_in, play_with_trigger}
 use Rattle.pcm_desk.specs.PlaySafe.{IsPlayInOrder}
 use Rattle.pcm_desk.specs.RecordBooks.{is_record_setup, is_running}
 use Rattle.pcm_desk.specs.RecordRequests.{record_roused_in, record_with_trigger}
-use Rattle.pcm_desk.specs.Desk.{Desk, DeskTurn, after, desk_here, group_started, held_by, play_at, play_rate_at, play_starting, play_unopened, record_at, record_starting}
-use Rattle.pcm_desk.specs.Events.{Fits, after_all}
+use Rattle.pcm_desk.specs.Channels.{play_rate_at, play_starting, record_starting}
+use Rattle.pcm_desk.specs.Desk.{Desk, DeskTurn, after, desk_here, group_started, held_by, play_at, play_unopened, record_at}
 use Rattle.pcm_desk.specs.Own.{MembersWait, is_waiting}
+use Rattle.pcm_desk.specs.Events.{Fits, after_all}
 use Rattle.pcm_desk.proofs.Members.{waits-always}
 use Rattle.pcm_desk.proofs.Grouping.{by-starting, is-this, play_at-started, record_at-started}
 use Rattle.pcm_sound.specs.Runs.{Run, marking, starts}
@@ -130,7 +131,7 @@ begun device pool story fd group v waits used ready after is new desk_is runs_ar
     runs_now : (slot : ℕ) → group_at story.desk.groups Play slot ≡ group → (play_at device after slot).state ≡ Running
     runs_now slot m =
         ap (λ (d : Desk). (play_at device d slot).state) is
-        ∙ ap (λ (b : PlayBook). b.state) (play_at-started device story.desk group slot some
+        ∙ ap (λ (b : PlayBook). b.state) (play_at-started device device story.desk group slot some
         ∙ ap (λ (b : Bool). cond b (play_starting device here (old slot)) (old slot)) (is-this (get_or story.desk.groups.play slot 0) group m)
         ∙ started_ready device here (old slot) (primed slot m) (and_parts (is_primed (old slot).state) (nat_lt 0 (frames_written (old slot))) (is_ready slot m)).1)
 
@@ -142,7 +143,7 @@ begun device pool story fd group v waits used ready after is new desk_is runs_ar
     records_now : (slot : ℕ) → group_at story.desk.groups Record slot ≡ group → is_running (record_at device after slot).state ≡ true
     records_now slot m =
         ap (λ (d : Desk). is_running (record_at device d slot).state) is
-        ∙ ap (λ (b : RecordBook). is_running b.state) (record_at-started device story.desk group slot some
+        ∙ ap (λ (b : RecordBook). is_running b.state) (record_at-started device device story.desk group slot some
         ∙ ap (λ (b : Bool). cond b (record_starting (record_at device story.desk slot)) (record_at device story.desk slot)) (is-this (get_or story.desk.groups.recording slot 0) group m)
         ∙ record_started_rest (record_at device story.desk slot) (rests slot m))
 

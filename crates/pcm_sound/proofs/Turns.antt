@@ -18,7 +18,7 @@ use Rattle.pcm_mixdev.proofs.FadedFrames.{faded-joined, faded-nothing, length-at
 use Rattle.pcm_desk.specs.declared.play_book.PlayBook.{PlayBook}
 use Rattle.pcm_desk.specs.Device.{DeviceSeen, IsDevice, mix_settings}
 use Rattle.pcm_desk.specs.PlayBooks.{giving, is_started}
-use Rattle.pcm_desk.specs.Desk.{play_rate_at}
+use Rattle.pcm_desk.specs.Channels.{play_rate_at}
 use Rattle.pcm_desk.proofs.PlaySafe.{allowed-started}
 use Rattle.pcm_sound.specs.Gains.{book_gain}
 use Rattle.pcm_sound.specs.Given.{given_frame, given_samples}

@@ -10,7 +10,7 @@ use Rattle.pcm_desk.specs.declared.map_book.MapBook.{MapBook}
 use Rattle.pcm_desk.specs.Device.{DeviceSeen, mix_settings}
 use Rattle.pcm_desk.specs.PlayBooks.{giving}
 use Rattle.pcm_desk.specs.MapBooks.{is_map_running}
-use Rattle.pcm_desk.specs.Desk.{play_rate_at}
+use Rattle.pcm_desk.specs.Channels.{play_rate_at}
 use Rattle.pcm_sound.specs.Gains.{book_gain, map_gain}
 use Rattle.pcm_sound.specs.Given.{given_samples}
 use Rattle.pcm_sound.specs.MapRuns.{area_taken}

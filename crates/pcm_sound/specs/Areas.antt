@@ -15,7 +15,8 @@ use Rattle.pcm_desk.specs.declared.map_book.MapBook.{MapBook}
 use Rattle.pcm_desk.specs.declared.opening.Opening.{Opening}
 use Rattle.pcm_desk.specs.Openings.{ring_bytes}
 use Rattle.pcm_desk.specs.MapBooks.{is_map_free}
-use Rattle.pcm_desk.specs.Desk.{Desk, by_way, held_by}
+use Rattle.pcm_desk.specs.Channels.{by_way}
+use Rattle.pcm_desk.specs.Desk.{Desk, held_by}
 
 -- byte b of silence in a format: those of the spelling of 0, over and over
 abbrev pub silent_byte : Format → ℕ → ℕ
@@ -25,7 +26,7 @@ silent_byte format b = slice_index_or (spelled format (pos 0)) (b % bytes_of for
 abbrev pub silent_area : Opening → List ℕ
 silent_area opening = map (silent_byte opening.settings.format) (range_with_len 0 (ring_bytes opening))
 
--- So many bytes from the byte at `from` on, of a stream that goes round in an area: behind the last byte comes the first.
+-- `count` bytes from the byte at `from` on, of a stream that goes round in an area: after the last byte comes the first
 abbrev pub area_bytes : List ℕ → ℕ → ℕ → List ℕ
 area_bytes area from count = map (λ place. slice_index_or area (place % length area) 0) (range_with_len from count)
 
@@ -46,7 +47,7 @@ is_recut old new =
 abbrev pub begins_map : MapBook → MapBook → Bool
 begins_map old new = is_map_free old.state && not (is_map_free new.state)
 
--- the area of a slot is silent anew
+-- the area of a slot becomes silent
 abbrev pub silences : MapBook → MapBook → Bool
 silences old new = begins_map old new || is_recut old.opening new.opening
 

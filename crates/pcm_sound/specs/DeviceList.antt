@@ -42,25 +42,25 @@ mix_at device faders table position =
 abbrev pub mixed_frames : DeviceSeen → (ℕ → Frame) → ℕ → List Frame
 mixed_frames device mix count = map (λ position. full_frame device (mix position)) (range_with_len 0 count)
 
--- so many frames of the device from one on, once so many were handed over: what the parent's plan makes of all that is mixed by then
+-- `count` frames of the device from frame `from` on, once it has been given `handed`: what the parent's plan makes of all mixed by then
 abbrev pub device_frames : DeviceSeen → (ℕ → Frame) → ℕ → ℕ → ℕ → List Frame
 device_frames device mix handed from count =
     recs (parent_plan device) (filters_of device) (mixed_frames device mix (mixed_for device handed)) from count
 
--- the frames of the device once so many were handed over: its ring begins as silence
+-- the frames of the device once it has been given `handed`: its ring begins as silence
 abbrev pub device_list : DeviceSeen → Faders → Table → ℕ → List Frame
 device_list device faders table handed =
     replicate (ring_frames device) (silence_in (device_settings device)) ++ device_frames device (mix_at device faders table) handed 0 handed
 
--- the bytes of all frames of the device, handed over or still in its ring
+-- the bytes of all frames of the device, given to it or still in its ring
 abbrev pub device_bytes : DeviceSeen → Story → List ℕ
 device_bytes device story = spelled_frames (device_settings device).format (device_list device story.faders (table_of device story) story.desk.handed)
 
--- the bytes of the frames that a table gives, as many as were handed over
+-- the bytes of the frames that a table gives, as many as the device has been given
 abbrev pub device_body_of : DeviceSeen → Faders → Table → ℕ → List ℕ
 device_body_of device faders table handed = spelled_frames (device_settings device).format (take handed (device_list device faders table handed))
 
--- the bytes of the frames that the interrupts of a story handed over
+-- the bytes of the frames that the interrupts of a story gave to the device
 abbrev pub device_body : DeviceSeen → Story → List ℕ
 device_body device story = device_body_of device story.faders (table_of device story) story.desk.handed
 

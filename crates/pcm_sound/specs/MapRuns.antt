@@ -5,11 +5,12 @@ use Rattle.pcm_oss.specs.declared.event.Event.TheVariants.{Intr}
 use Rattle.pcm_desk.specs.declared.map_book.MapBook.{MapBook}
 use Rattle.pcm_desk.specs.Device.{DeviceSeen}
 use Rattle.pcm_desk.specs.MapBooks.{is_map_running, taken_of}
-use Rattle.pcm_desk.specs.Desk.{Desk, map_mixing, mixed_by}
+use Rattle.pcm_desk.specs.Channels.{map_mixing, mixed_by}
+use Rattle.pcm_desk.specs.Desk.{Desk}
 use Rattle.pcm_sound.specs.Areas.{area_bytes}
 use Rattle.pcm_sound.specs.Runs.{Piece, Run}
 
--- a run of a book that starts where so many frames were mixed; nothing was taken yet
+-- a run of a book that starts where `position` frames were mixed; nothing was taken yet
 abbrev pub mapped_run : ℕ → MapBook → Run
 mapped_run position book = record { settings = book.opening.settings; bytes = []; start = Some position; drained = false; dropped = None; pieces = [] }
 
@@ -39,11 +40,11 @@ abbrev pub map_stopped : ℕ → List Run → List Run
 map_stopped position [] = []
 map_stopped position (run ∷ runs) = record run { dropped = Some position } ∷ runs
 
--- a slot that hadn't started has
+-- a slot starts: it wasn't running before, and is now
 abbrev pub map_starts : MapBook → MapBook → Bool
 map_starts old new = not (is_map_running old.state) && is_map_running new.state
 
--- a slot that had started has not
+-- a slot stops: it was running before, and isn't now
 abbrev pub map_ends : MapBook → MapBook → Bool
 map_ends old new = is_map_running old.state && not (is_map_running new.state)
 

@@ -8,8 +8,9 @@ use Rattle.pcm_wave.specs.declared.pool.Source.TheVariants.{Inline}
 use Rattle.pcm_wave.specs.Pools.{bytes_at}
 use Rattle.pcm_desk.specs.declared.device.Held.{Held}
 use Rattle.pcm_desk.specs.Device.{DeviceSeen}
-use Rattle.pcm_desk.specs.Desk.{Desk, held_by, map_at}
-use Rattle.pcm_desk.specs.Own.{Channel, Mapped, channel_at, descriptor_of, own_turn, ungrouped}
+use Rattle.pcm_desk.specs.Channels.{Channel, Mapped, own_turn, ungrouped}
+use Rattle.pcm_desk.specs.Desk.{Desk, channel_at, held_by, map_at}
+use Rattle.pcm_desk.specs.Own.{descriptor_of}
 use Rattle.pcm_desk.specs.OwnEvents.{closes, concerns}
 use Rattle.pcm_sound.specs.Areas.{poked, silences, silent_area}
 use Rattle.pcm_sound.specs.Story.{Story}
@@ -43,12 +44,12 @@ abbrev pub own_written : Event → List ℕ → List ℕ → List ℕ
 own_written (Poke fd offset at count) bytes area = poked offset bytes area
 own_written event bytes area = area
 
--- the area beside a book, before an event and after it: silent anew, or as it was written
+-- the area beside a book, before an event and after it: silent again, or as it was written
 abbrev pub area_beside : Channel → Channel → List ℕ → List ℕ
 area_beside (Mapped old) (Mapped new) written = if silences old new then silent_area new.opening else written
 area_beside old new written = written
 
--- An area after an event of its own, by the book beside it, the bytes that the event brings, and how many frames were handed over before.
+-- An area after an event of its own, by the book beside it, the bytes that the event brings, and the frames given to the device before.
 -- The groups have no part in it: a mapped channel is in none.
 abbrev pub own_area : DeviceSeen → ℕ → Event → List ℕ → Channel → List ℕ → List ℕ
 own_area device handed event bytes channel area =

@@ -1,4 +1,4 @@
--- What the client of a descriptor is told along a list of events, with the bytes of its reads.
+-- The replies to the client of a descriptor along a list of events, with the bytes of its reads.
 use Rattle.std.specs.Prelude.{ℕ, if◌then◌else◌, List, [], ◌∷◌}
 use Rattle.pcm_oss.specs.declared.event.Event.{Event}
 use Rattle.pcm_oss.specs.Replies.{Reply}

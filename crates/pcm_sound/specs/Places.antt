@@ -1,4 +1,4 @@
--- Where the pieces of a run stand: they follow each other from its start on, and a run that is over ends behind the last of them.
+-- Where the pieces of a run stand: they follow each other from its start on, and a run that is over ends after the last of them.
 use Rattle.std.specs.Prelude.{◌≡◌, ℕ, ◌+◌, ◌<◌, ◌≤◌, Bool, true, false, List, [], ◌∷◌, All, Option, Some, None}
 use Rattle.pcm_desk.specs.declared.play_book.PlayBook.{PlayBook}
 use Rattle.pcm_desk.specs.declared.map_book.MapBook.{MapBook}
@@ -51,7 +51,7 @@ pub record IsCounted (device : DeviceSeen) (mixed : ℕ) (book : PlayBook) (run 
   pub waits : is_started book.state ≡ false → IsWaiting run
   pub goes : is_started book.state ≡ true → IsGoing device mixed book run
 
--- the runs of a slot, of which the book counts the newest if so many bytes were written; the others are over
+-- the runs of a slot, of which the book counts the newest if `written` isn't 0; the others are over
 abbrev pub ArePlaced : DeviceSeen → ℕ → PlayBook → ℕ → List Run → Type 0
 ArePlaced device mixed book written [] = Unit {0}
 ArePlaced device mixed book written (run ∷ runs) =

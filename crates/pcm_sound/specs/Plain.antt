@@ -26,7 +26,7 @@ pub record Span : Type 0 where
 abbrev pub lasting : DeviceSeen → Run → ℕ
 lasting device run = len (play_rate_between device run.settings) (length (run_frames run))
 
--- behind all that a run lasts for, once no more was to come
+-- the position after all that a run lasts for, once no more was to come
 abbrev pub drain_end : DeviceSeen → ℕ → ℕ → Run → ℕ
 drain_end device until start run = if run.drained then start + lasting device run else until
 
@@ -35,7 +35,7 @@ abbrev pub drop_end : ℕ → Option ℕ → ℕ
 drop_end until None = until
 drop_end until (Some position) = position
 
--- the end of a run: behind all that it lasts for, where it was dropped, or the position until which it is told
+-- the end of a run: after all that it lasts for, where it was dropped, or the position `until`, whichever is first
 abbrev pub run_end : DeviceSeen → ℕ → ℕ → Run → ℕ
 run_end device until start run = min (drain_end device until start run) (min (drop_end until run.dropped) until)
 

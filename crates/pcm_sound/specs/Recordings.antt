@@ -8,11 +8,12 @@ use Rattle.pcm_format.specs.Frames.{Frame}
 use Rattle.pcm_desk.specs.declared.record_book.RecordBook.{RecordBook}
 use Rattle.pcm_desk.specs.Device.{DeviceSeen}
 use Rattle.pcm_desk.specs.RecordBooks.{coming, is_running, keeping, record_fill_of}
-use Rattle.pcm_desk.specs.Desk.{Desk, record_rate_at}
+use Rattle.pcm_desk.specs.Channels.{record_rate_at}
+use Rattle.pcm_desk.specs.Desk.{Desk}
 use Rattle.pcm_sound.specs.Given.{recorded_bytes}
 
 pub record Recording : Type 0 where
-  -- how many frames were handed over when it started
+  -- how many frames the device had been given when it started
   pub start : ℕ
   -- the bytes that were kept
   pub kept : List ℕ
@@ -45,7 +46,7 @@ keeps device pool n book recording = record recording {
 abbrev pub hearing : DeviceSeen → Pool → ℕ → RecordBook → Recording → Recording
 hearing device pool n book recording = if is_running book.state then keeps device pool n book recording else recording
 
--- the bytes that a read of so many gets: the oldest that no read got
+-- the bytes that a read of `count` bytes gets: the oldest that no read got
 abbrev pub read_bytes : ℕ → RecordBook → Recording → List ℕ
 read_bytes count book recording = take (min count (record_fill_of book)) (drop book.read recording.kept)
 
@@ -59,7 +60,7 @@ going_on device pool (Read fd count) old new recording = handing old new recordi
 going_on device pool (Intr n) old new recording = hearing device pool n old recording
 going_on device pool event old new recording = recording
 
--- a channel that hadn't started has
+-- a channel starts: it wasn't running before, and is now
 abbrev pub starts_recording : RecordBook → RecordBook → Bool
 starts_recording old new = not (is_running old.state) && is_running new.state
 

@@ -15,7 +15,8 @@ use Rattle.pcm_desk.specs.declared.play_book.PlayState.TheVariants.{Running}
 use Rattle.pcm_desk.specs.Device.{DeviceSeen}
 use Rattle.pcm_desk.specs.PlayBooks.{giving, is_draining, is_started}
 use Rattle.pcm_desk.specs.PlayRequests.{has_play_bit}
-use Rattle.pcm_desk.specs.Desk.{Desk, mixed_by, play_rate_at}
+use Rattle.pcm_desk.specs.Channels.{mixed_by, play_rate_at}
+use Rattle.pcm_desk.specs.Desk.{Desk}
 use Rattle.pcm_sound.specs.Given.{given_frame}
 
 -- what one interrupt took of a run: `count` frames from `index` on, mixed from `position` on, and how many were missing
@@ -71,11 +72,11 @@ playing device position n book (run ∷ runs) =
     if is_started book.state && nat_lt 0 n then record run { pieces = piece_of device position n book ∷ run.pieces } ∷ runs
     else run ∷ runs
 
--- a slot that hadn't started has
+-- a slot starts: it hadn't started before, and has now
 abbrev pub starts : PlayBook → PlayBook → Bool
 starts old new = not (is_started old.state) && is_started new.state
 
--- a slot that had started has not
+-- a slot stops: it had started before, and isn't now
 abbrev pub ends : PlayBook → PlayBook → Bool
 ends old new = is_started old.state && not (is_started new.state)
 
@@ -90,7 +91,7 @@ abbrev pub drops : Event → Bool
 drops (Ioctl fd request) = asks_drop request
 drops event = false
 
--- what an event tells of a run: where it starts, whether no more comes, and where it is dropped
+-- how an event marks a run: where it starts, whether no more comes, and where it is dropped
 abbrev pub marked : ℕ → Event → PlayBook → PlayBook → Run → Run
 marked position event old new run = record run {
   start = if starts old new then Some position else run.start;
@@ -98,7 +99,7 @@ marked position event old new run = record run {
   dropped = if ends old new && drops event then Some position else run.dropped;
 }
 
--- what an event tells of the runs of a slot is told of the newest
+-- an event marks the newest run of a slot
 abbrev pub marking : ℕ → Event → PlayBook → PlayBook → List Run → List Run
 marking position event old new [] = []
 marking position event old new (run ∷ runs) = marked position event old new run ∷ runs

@@ -1,10 +1,10 @@
--- What a list of events comes to: the desk, for each slot that is mixed its runs and its gains, for each mapped one its area, for each
+-- The story of a list of events: the desk, for each slot that is mixed its runs and its gains, for each mapped one its area, for each
 -- that records its recording, and what the faders of the mixer device were set to.
 use Rattle.std.specs.Prelude.{ℕ, ◌-◌, nat_lt, if◌then◌else◌, List, [], ◌∷◌}
 use Rattle.pcm_oss.specs.declared.event.Event.{Event}
 use Rattle.pcm_wave.specs.declared.pool.Pool.{Pool}
 use Rattle.pcm_desk.specs.Device.{DeviceSeen, play_slots}
-use Rattle.pcm_desk.specs.Desk.{Desk, desk_at_start, map_at, map_unopened, play_at, record_at, after}
+use Rattle.pcm_desk.specs.Desk.{Desk, after, desk_at_start, map_at, map_unopened, play_at, record_at}
 use Rattle.pcm_sound.specs.Areas.{area_after, silent_area}
 use Rattle.pcm_sound.specs.Gains.{Faders, GainSet, faders_after, faders_at_start, gains_after, map_loudness, play_loudness}
 use Rattle.pcm_sound.specs.MapRuns.{map_runs_after}
@@ -62,7 +62,7 @@ told_all device pool story (event ∷ events) = told_all device pool (told devic
 abbrev pub story_of : DeviceSeen → Pool → List Event → Story
 story_of device pool events = told_all device pool (story_at_start device) events
 
--- ---- the slots that are mixed, by number: those that play, and behind them those of mapped areas
+-- ---- the slots that are mixed, by number: those that play, and after them those of mapped areas
 
 -- what is so of a slot of the mix: of one that plays, or of a mapped one, by its place among these
 abbrev pub by_number : {X : Type 0} → DeviceSeen → (ℕ → X) → (ℕ → X) → ℕ → X

@@ -1,4 +1,4 @@
--- What the events of a script are answered.
+-- The replies to the events of a script.
 use Rattle.std.specs.Prelude.{ℕ, List, [], ◌∷◌, Option, Some, None}
 use Rattle.pcm_oss.specs.declared.event.Event.{Event}
 use Rattle.pcm_oss.specs.declared.event.Event.TheVariants.{Read}
@@ -6,7 +6,8 @@ use Rattle.pcm_wave.specs.declared.pool.Pool.{Pool}
 use Rattle.pcm_oss.specs.Replies.{Reply}
 use Rattle.pcm_desk.specs.declared.device.Held.{Held}
 use Rattle.pcm_desk.specs.Device.{DeviceSeen}
-use Rattle.pcm_desk.specs.Desk.{after, by_way, held_by, record_at}
+use Rattle.pcm_desk.specs.Channels.{by_way}
+use Rattle.pcm_desk.specs.Desk.{after, held_by, record_at}
 use Rattle.pcm_sound.specs.Recordings.{read_bytes}
 use Rattle.pcm_sound.specs.Story.{Story, told}
 

@@ -15,7 +15,7 @@ newest_start [] = None
 newest_start (run ∷ runs) = run.start
 
 -- The newest run of each member that plays had not started, and starts at the frame that is mixed next; each member that records had not
--- started, and its recording starts at the frame that is handed over next.
+-- started, and its recording starts at the frame that the device is given next.
 pub record StartAsOne (device : DeviceSeen) (group : ℕ) (old new : Story) : Type 0 where
   pub waited : (slot : ℕ) → group_at old.desk.groups Play slot ≡ group → newest_start (old.runs slot) ≡ None
   pub started : (slot : ℕ) → group_at old.desk.groups Play slot ≡ group → newest_start (new.runs slot) ≡ Some old.desk.mixed

@@ -15,7 +15,8 @@ use Rattle.pcm_desk.specs.MapSafe.{MapIsSafe}
 use Rattle.pcm_desk.specs.declared.record_book.RecordBook.{RecordBook}
 use Rattle.pcm_desk.specs.RecordBooks.{is_running}
 use Rattle.pcm_desk.specs.RecordSafe.{RecordIsSafe}
-use Rattle.pcm_desk.specs.Desk.{desk_here, map_at, map_rate_at, play_at, play_rate_at, record_at, record_rate_at}
+use Rattle.pcm_desk.specs.Channels.{map_rate_at, play_rate_at, record_rate_at}
+use Rattle.pcm_desk.specs.Desk.{desk_here, map_at, play_at, record_at}
 use Rattle.pcm_wave.specs.declared.pool.Pool.{Pool}
 use Rattle.pcm_mixdev.specs.Mixers.{master_gain, slot_gain}
 use Rattle.pcm_sound.specs.Gains.{book_gain, last_gain, map_gain, master_gain_at, slot_gain_at}
@@ -26,7 +27,7 @@ use Rattle.pcm_sound.specs.Story.{Story}
 use Rattle.pcm_sound.specs.Places.{MapIsPlaced, SlotIsPlaced}
 use Rattle.pcm_sound.specs.Plain.{IsUnbroken}
 
--- how many frames of the mix so many frames of a run give: those that they allow, or all that they last for once no more comes
+-- how many frames of the mix `frames` frames of a run give: those that they allow, or all that they last for once no more comes
 abbrev pub frames_given : Rate → Bool → ℕ → ℕ
 frames_given rate drained frames = if drained then len rate frames else can rate frames
 
@@ -34,7 +35,7 @@ frames_given rate drained frames = if drained then len rate frames else can rate
 abbrev pub given_in : DeviceSeen → Run → ℕ
 given_in device run = frames_given (play_rate_between device run.settings) run.drained (whole_frames run.settings (length run.bytes))
 
--- the frames of a piece were mixed before this position, and are among so many of its run
+-- the frames of a piece were mixed before this position, and are among the first `most` of its run
 pub record PieceIsValid (mixed most : ℕ) (piece : Piece) : Type 0 where
   pub past : piece.position + piece.count ≤ mixed
   pub inside : piece.index + piece.count ≤ most
@@ -92,10 +93,10 @@ pub record StoryIsValid (device : DeviceSeen) (story : Story) : Type 0 where
   -- so is each fader of the mixer device
   pub faders : (slot position : ℕ) → story.desk.mixed ≤ position → slot_gain_at story.faders slot position ≡ slot_gain story.desk.mixer slot
   pub master : (position : ℕ) → story.desk.mixed ≤ position → master_gain_at story.faders position ≡ master_gain story.desk.mixer
-  -- just the frames are mixed that those handed over need
+  -- just the frames are mixed that those of the device need
   pub mixed : story.desk.mixed ≡ mixed_for device story.desk.handed
 
--- a recording that has started is what its book counts: the bytes kept, those that were read, and the frames handed over
+-- a recording that has started is what its book counts: the bytes kept, those that were read, and the frames given to the device
 -- since; where no interrupt lost a frame, it is all that came of what is recorded
 pub record IsRecorded (device : DeviceSeen) (pool : Pool) (handed : ℕ) (book : RecordBook) (recording : Recording) : Type 0 where
   pub kept : length recording.kept ≡ book.kept
@@ -104,7 +105,7 @@ pub record IsRecorded (device : DeviceSeen) (pool : Pool) (handed : ℕ) (book :
   pub whole : recording.whole ≡ true
       → recording.kept ≡ recorded_bytes device book.opening.settings (recorded_frames pool recording.start) 0 book.given
 
--- a slot's record book and its recording, once so many frames were handed over
+-- a slot's record book and its recording, once the device has been given `handed` frames
 pub record RecordingIsValid (device : DeviceSeen) (pool : Pool) (handed : ℕ) (book : RecordBook) (recording : Recording) : Type 0 where
   pub settings : IsRate book.opening.settings.rate
   pub safe : RecordIsSafe (record_rate_at device book) book

@@ -16,11 +16,12 @@ ghost use Rattle.pcm_mixdev.specs.Mixers.{master_gain, slot_gain};
 ghost use Rattle.pcm_desk.specs.declared.play_book.PlayBook.{PlayBook};
 ghost use Rattle.pcm_desk.specs.declared.device.Held.{Held};
 ghost use Rattle.pcm_desk.specs.Device.{DeviceSeen, IsDevice, device_settings};
-ghost use Rattle.pcm_desk.specs.Desk.{after, held_by, map_at, mixing, record_at};
-ghost use Rattle.pcm_desk.specs.MapRequests.{map_ask};
-ghost use Rattle.pcm_desk.specs.Events.{Fits, IsDescriptor};
+ghost use Rattle.pcm_desk.specs.Channels.{mixing};
+ghost use Rattle.pcm_desk.specs.Desk.{after, held_by, map_at, record_at};
 ghost use Rattle.pcm_desk.specs.Own.{HoldApart, MembersWait, descriptor_of};
 ghost use Rattle.pcm_desk.specs.OwnEvents.{JoinsNone, Opens, closes, own_events};
+ghost use Rattle.pcm_desk.specs.MapRequests.{map_ask};
+ghost use Rattle.pcm_desk.specs.Events.{Fits, IsDescriptor};
 ghost use Rattle.pcm_desk.specs.RecordBooks.{is_running};
 ghost use Rattle.pcm_sound.specs.Apart.{AreApart, all_by_pieces, all_by_spans, sum_of_all};
 ghost use Rattle.pcm_sound.specs.DeviceList.{device_text, faded_table, sum_at, table_of};
@@ -87,7 +88,7 @@ pub fn mapped_runs_are_never_short()
 {}
 
 /// An accepted poke writes its bytes where it says, and changes nothing that was taken: what is taken next begins at the place in the area that
-/// the channel tells.
+/// the channel answers as its pointer.
 pub fn pokes_change_what_was_not_taken()
     ensures written { (device : DeviceSeen) (pool : Pool) (events : List Event) (fd offset at count slot : ℕ)
         → let story = story_of device pool events in
@@ -149,7 +150,7 @@ pub fn the_mixer_sets_gains_from_the_next_frame()
 {}
 
 /// Where a start of a group is accepted, each of its members starts: those that play at the frame that is mixed next, and those that record at the
-/// frame that is handed over next.
+/// frame that the device is given next.
 pub fn members_start_as_one()
     ensures { (device : DeviceSeen) (pool : Pool) (events : List Event) (fd group : ℕ) → IsDevice device
         → All (Fits device pool) events
@@ -158,14 +159,14 @@ pub fn members_start_as_one()
         → StartAsOne device group story (told device pool story (StartGroup fd group)) }
 {}
 
-/// An interrupt leaves a run short exactly where it counts an underrun, as long as the count can rise: so answers tell of every shortage.
+/// An interrupt leaves a run short exactly where it counts an underrun, as long as the count can rise: so answers report every shortage.
 pub fn shortages_are_counted()
     ensures { (device : DeviceSeen) (position n : ℕ) (book : PlayBook) → 0 < n → book.underruns < 2 ^ 32 - 1
         → ((piece_of device position n book).short ≡ 0) ↔ ((mixing device position n book).underruns ≡ book.underruns) }
 {}
 
-/// A story knows a pool by the bytes of its events and the frames that are recorded: pools that are alike tell one story, and one that has
-/// more bytes behind those of another is like it to all events that fit that one.
+/// A story knows a pool by the bytes of its events and the frames that are recorded: pools that are alike give one story, and one that has
+/// more bytes after those of another is like it to all events that fit that one.
 pub fn alike_pools_tell_one_story()
     ensures story { (device : DeviceSeen) (one other : Pool) (events : List Event) → AreAlike one other events
         → story_of device other events ≡ story_of device one events }
@@ -176,8 +177,8 @@ pub fn alike_pools_tell_one_story()
 {}
 
 /// Two openings with equal settings, equal events of their own and equal interrupts between them get equal replies, the bytes of reads
-/// included, whatever others do: in one script or in two, as long as the same is captured and as many frames were handed over before, and they
-/// join no group. Two that are mapped, whose pokes bring equal bytes, have equal areas until they are closed.
+/// included, whatever others do: in one script or in two, as long as the same is captured, the device was given as many frames before, and
+/// they join no group. Two that are mapped, whose pokes bring equal bytes, have equal areas until they are closed.
 pub fn clients_are_told_alike()
     ensures replies { (device : DeviceSeen) (pool more : Pool) (fd at : ℕ) (way : Way) (settings : Settings) (held theirs : Held)
         (one other : Story) (events others : List Event)

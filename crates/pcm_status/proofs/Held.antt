@@ -1,13 +1,11 @@
 -- What a descriptor of an engine holds.
-use Rattle.std.proofs.Common.{◌≡◌, ℕ, ◌<◌, true, false, Some, refl, sym, ap, ◌∙◌, subst, arith}
-use Rattle.std.specs.Prelude.{Option}
+use Rattle.std.proofs.Common.{◌≡◌, ℕ, ◌<◌, true, false, Some, refl, sym, ap, ◌∙◌, subst, arith, Bool}
+use Rattle.std.specs.Prelude.{Option, not}
 use Rattle.pcm_fixed.proofs.Items.{items-count}
 use Rattle.pcm_feeder.specs.declared.kind.Kind.{Kind}
 use Rattle.pcm_feeder.specs.Kept.{Kept}
 use Rattle.pcm_oss.specs.declared.event.Way.{Way}
 use Rattle.pcm_oss.specs.declared.event.Way.TheVariants.{Play, Record, Map}
-use Rattle.pcm_oss.specs.declared.request.Request.{Request}
-use Rattle.pcm_group.specs.declared.sync_groups.Groups.{Groups}
 use Rattle.pcm_rate.specs.declared.rate.Rate.{Rate}
 use Rattle.pcm_desk.specs.declared.device.Held.{Held}
 use Rattle.pcm_desk.specs.declared.here.Here.{Here}
@@ -16,14 +14,14 @@ use Rattle.pcm_desk.specs.declared.play_book.PlayState.{PlayState}
 use Rattle.pcm_desk.specs.declared.play_book.PlayState.TheVariants.{Free, Setup, Primed, Running, Draining}
 use Rattle.pcm_desk.specs.declared.record_book.RecordBook.{RecordBook}
 use Rattle.pcm_desk.specs.declared.map_book.MapBook.{MapBook}
-use Rattle.pcm_desk.specs.Device.{DeviceSeen, map_slots, play_slots, record_slots}
-use Rattle.pcm_desk.specs.Desk.{Desk, desk_here, held_by, ioctl_on, map_at, map_rate_at, play_at, play_rate_at, play_unopened, record_at, record_rate_at, record_unopened}
+use Rattle.pcm_desk.specs.Device.{map_slots, play_slots, record_slots}
+use Rattle.pcm_desk.specs.Channels.{is_held, map_rate_at, play_rate_at, record_rate_at, may_be_held}
+use Rattle.pcm_desk.specs.Desk.{desk_here, held_by, map_at, play_at, record_at, channel_at}
 use Rattle.pcm_desk.specs.PlayBooks.{is_play_free}
 use Rattle.pcm_desk.specs.RecordBooks.{is_record_free}
 use Rattle.pcm_desk.specs.PlaySafe.{PlayIsHere, PlayIsSafe}
 use Rattle.pcm_desk.specs.RecordSafe.{RecordIsSafe}
 use Rattle.pcm_desk.specs.MapSafe.{MapIsSafe}
-use Rattle.pcm_desk.specs.Own.{MayBeHeld, is_held}
 use Rattle.pcm_engine.specs.declared.engine.EngineOf.{EngineOf}
 use Rattle.pcm_engine.specs.Engines.{AreReady, desk_of, device_of}
 use Rattle.pcm_engine.proofs.Turning.{map-there, play-there, record-there}
@@ -61,16 +59,22 @@ unfree Primed held = refl
 unfree Running held = refl
 unfree (Draining closed) held = refl
 
+not-true : (b : Bool) → not b ≡ true → b ≡ false
+not-true true e = cc
+not-true false e = refl
+
+-- the channel that a descriptor holds, of a way that is known
+may_be : {B : Type 0} (engine : EngineOf B) (fd : ℕ) (held : Held) (way : Way) → held_by (desk_of engine) fd ≡ Some held → held.way ≡ way
+    → may_be_held (channel_at (device_of engine) (desk_of engine) (record { way = way; slot = held.slot })) ≡ true
+may_be engine fd held way e is = subst (λ (w : Way). may_be_held (channel_at (device_of engine) (desk_of engine) (record { way = w; slot = held.slot })) ≡ true) is (engine.apart.taken fd held (device_of engine) e)
+
 pub play-taken : {B : Type 0} (engine : EngineOf B) (fd : ℕ) (held : Held) → held_by (desk_of engine) fd ≡ Some held → held.way ≡ Play
     → is_play_free (play_at (device_of engine) (desk_of engine) held.slot).state ≡ false
-play-taken engine fd held e way =
-    unfree (play_at (device_of engine) (desk_of engine) held.slot).state
-    (subst (λ (w : Way). MayBeHeld (desk_of engine) w held.slot) way (engine.apart.taken fd held e) (play_unopened (device_of engine)))
+play-taken engine fd held e way = unfree (play_at (device_of engine) (desk_of engine) held.slot).state (may_be engine fd held Play e way)
 
 pub record-taken : {B : Type 0} (engine : EngineOf B) (fd : ℕ) (held : Held) → held_by (desk_of engine) fd ≡ Some held → held.way ≡ Record
     → is_record_free (record_at (device_of engine) (desk_of engine) held.slot).state ≡ false
-record-taken engine fd held e way =
-    subst (λ (w : Way). MayBeHeld (desk_of engine) w held.slot) way (engine.apart.taken fd held e) (record_unopened (device_of engine))
+record-taken engine fd held e way = not-true (is_record_free (record_at (device_of engine) (desk_of engine) held.slot).state) (may_be engine fd held Record e way)
 
 -- ---- that its book is in order
 
@@ -95,16 +99,3 @@ play-here kind kept engine slot rate here book ready rate_is here_is book_is =
     subst (λ (r : Rate). PlayIsHere r here book) (sym rate_is)
     (subst (λ (h : Here). PlayIsHere (play_rate_at device (play_at device desk slot)) h book) (sym here_is)
     (subst (λ (b : PlayBook). PlayIsHere (play_rate_at device (play_at device desk slot)) (desk_here device desk) b) (sym book_is) (ready.places slot)))
-
--- ---- what it replies
-
-apart_by : (way : Way) (slot : ℕ) (device : DeviceSeen) (desk : Desk) (groups : Groups) (request : Request)
-    → (ioctl_on device (Some (record { way = way; slot = slot })) (record desk { groups = groups }) request).reply ≡ (ioctl_on device (Some (record { way = way; slot = slot })) desk request).reply
-apart_by Play slot device desk groups request = refl
-apart_by Record slot device desk groups request = refl
-apart_by Map slot device desk groups request = refl
-
--- whatever the groups are
-pub groups-apart : (device : DeviceSeen) (desk : Desk) (held : Held) (groups : Groups) (request : Request)
-    → (ioctl_on device (Some held) (record desk { groups = groups }) request).reply ≡ (ioctl_on device (Some held) desk request).reply
-groups-apart device desk held groups request = apart_by held.way held.slot device desk groups request

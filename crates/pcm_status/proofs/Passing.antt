@@ -1,4 +1,4 @@
--- The book of a slot after frames that are handed over.
+-- The book of a slot after a hand-over.
 use Rattle.std.proofs.Common.{◌≡◌, ℕ, zero, suc, ◌+◌, ◌<◌, false, refl, sym, ap, ◌∙◌, subst, arith}
 use Rattle.pcm_rate.specs.declared.rate.Rate.{Rate}
 use Rattle.pcm_rate.specs.Rates.{IsRatio}
@@ -10,7 +10,8 @@ use Rattle.pcm_desk.specs.declared.record_book.RecordBook.{RecordBook}
 use Rattle.pcm_desk.specs.declared.record_book.RecordState.{RecordState}
 use Rattle.pcm_desk.specs.declared.record_book.RecordState.TheVariants as records
 use Rattle.pcm_desk.specs.Device.{DeviceSeen, mixed_for, passed_for}
-use Rattle.pcm_desk.specs.Desk.{Desk, held_by, mixed_by, mixing, play_at, play_rate_at, record_at, record_rate_at}
+use Rattle.pcm_desk.specs.Channels.{mixed_by, mixing, play_rate_at, record_rate_at}
+use Rattle.pcm_desk.specs.Desk.{Desk, held_by, play_at, record_at}
 use Rattle.pcm_desk.specs.PlayBooks.{play_settled, refilled}
 use Rattle.pcm_desk.specs.RecordBooks.{captured, is_running}
 use Rattle.pcm_desk.specs.PlaySafe.{PlayIsSafe}
@@ -64,7 +65,7 @@ some-of (suc n) none = omega arith
 
 -- ---- the book after some frames
 
--- a book that so many frames of the mix were taken of, settled by its own rate, is the book of the slot
+-- a book after `more` frames were mixed, settled by its own rate, is the book of the slot
 pub settled-after : (device : DeviceSeen) (desk : Desk) (n slot more : ℕ) (rate : Rate) (mixed : PlayBook) → 0 < n → rate ≡ play_rate_at device (play_at device desk slot)
     → more ≡ mixed_by device desk.handed n → mixed.opening ≡ (play_at device desk slot).opening → mixed ≡ mixing device (mixed_for device desk.handed) more (play_at device desk slot)
     → play_settled rate (passed_for device (desk.handed + n)) mixed ≡ play_at device (desk_after device desk n) slot

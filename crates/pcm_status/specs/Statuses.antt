@@ -19,7 +19,8 @@ use Rattle.pcm_desk.specs.declared.map_book.MapState.{MapState}
 use Rattle.pcm_desk.specs.declared.map_book.MapState.TheVariants as mapped
 use Rattle.pcm_desk.specs.declared.opening.Opening.{Opening}
 use Rattle.pcm_desk.specs.Device.{DeviceSeen}
-use Rattle.pcm_desk.specs.Desk.{Desk, after, by_way, group_of, held_by, map_at, play_at, play_rate_at, record_at, slot_number}
+use Rattle.pcm_desk.specs.Channels.{by_way, play_rate_at}
+use Rattle.pcm_desk.specs.Desk.{Desk, after, group_of, held_by, map_at, play_at, record_at, slot_number}
 use Rattle.pcm_desk.specs.PlayBooks.{giving}
 use Rattle.pcm_desk.specs.RecordBooks.{is_record_free}
 use Rattle.pcm_desk.specs.MapBooks.{is_map_free}
@@ -35,7 +36,7 @@ use Rattle.pcm_status.specs.declared.status.SlotState.TheVariants as slots
 abbrev pub would : DeviceSeen → Desk → Event → Result Answer Errno
 would device desk event = (after device desk event).reply
 
--- an answer counts so many bytes
+-- an answer counts `bytes` bytes
 abbrev pub counts : ℕ → Result Answer Errno → Bool
 counts bytes (Ok (Number count)) = count == bytes
 counts bytes (Ok (Got count)) = count == bytes
@@ -74,7 +75,7 @@ channel_status way slot opening volume group run = record {
   run = run;
 }
 
--- a channel that records has no volume: 0 is told
+-- a channel that records has no volume: the answer is 0
 abbrev pub held_status : DeviceSeen → Desk → Held → ChannelStatus
 held_status device desk held =
     let number : ℕ = slot_number (length desk.play) held.way held.slot in
@@ -96,7 +97,7 @@ client_status device desk fd = option_map (held_status device desk) (held_by des
 abbrev pub still_given : Rate → PlayBook → ℕ
 still_given rate book = giving rate (2 ^ 64 - 1) book
 
--- a slot is free, held, or drains behind a close
+-- a slot is free, held, or drains after a close
 abbrev pub play_slot : PlayState → SlotState
 play_slot playing.Free = slots.Free
 play_slot (playing.Draining true) = slots.Closing

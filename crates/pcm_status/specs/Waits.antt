@@ -1,4 +1,4 @@
--- After how many frames that are handed over a client can go on.
+-- After how many frames of the device a client can go on.
 use Rattle.std.specs.Prelude.{◌≡◌, ℕ, zero, suc, ◌+◌, Bool, true, false, ◌||◌, Option, Some, None, Result, Ok, Err}
 use Rattle.pcm_oss.specs.declared.event.Event.TheVariants.{Write, Read}
 use Rattle.pcm_oss.specs.declared.event.Way.{Way}
@@ -12,26 +12,26 @@ use Rattle.pcm_desk.specs.Desk.{Desk, interrupt_turn}
 use Rattle.pcm_status.specs.declared.limits.TheConstants.{FRAMES_MOST}
 use Rattle.pcm_status.specs.Statuses.{counts, would}
 
--- the desk once so many frames more were handed over, at one interrupt
+-- the desk once the device has been given n more frames, at one interrupt
 abbrev pub desk_after : DeviceSeen → Desk → ℕ → Desk
 desk_after device desk zero = desk
 desk_after device desk (suc n) = (interrupt_turn device desk (suc n)).desk
 
--- a write of so many bytes would be taken whole, or so many could be read
+-- a write of `bytes` bytes would be taken whole, or as many could be read
 abbrev pub can_go_on : DeviceSeen → ℕ → ℕ → Desk → Bool
 can_go_on device fd bytes desk = counts bytes (would device desk (Write fd Inline 0 bytes)) || counts bytes (would device desk (Read fd bytes))
 
--- and so it is after so many frames
+-- and so it is after n frames
 abbrev pub goes_on_after : DeviceSeen → Desk → ℕ → ℕ → ℕ → Bool
 goes_on_after device desk fd bytes n = can_go_on device fd bytes (desk_after device desk n)
 
--- After so many frames a client can go on, and after one fewer it can't.
+-- After n frames a client can go on, and after one fewer it can't.
 pub record IsMetAt (device : DeviceSeen) (desk : Desk) (fd bytes n : ℕ) : Type 0 where
   pub met : goes_on_after device desk fd bytes n ≡ true
   pub fewer : (before : ℕ) → n ≡ before + 1 → goes_on_after device desk fd bytes before ≡ false
 
--- What is told of the wait for so many bytes of a channel that plays or records: after how many frames it ends. It is busy where it can't go on
--- after FRAMES_MOST frames either.
+-- The answer to the wait for `bytes` bytes of a channel that plays or records: after how many frames it ends. It is busy where the client
+-- can't go on after FRAMES_MOST frames either.
 abbrev pub WaitHere : DeviceSeen → Desk → ℕ → ℕ → Result ℕ Errno → Type 0
 WaitHere device desk fd bytes (Ok n) = IsMetAt device desk fd bytes n
 WaitHere device desk fd bytes (Err errno) = (errno ≡ Busy) × (goes_on_after device desk fd bytes FRAMES_MOST ≡ false)

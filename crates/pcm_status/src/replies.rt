@@ -5,9 +5,11 @@ ghost use Rattle.pcm_oss.specs.declared.event.Event.TheVariants.{Ioctl};
 ghost use Rattle.pcm_oss.specs.declared.event.Way.TheVariants.{Play};
 ghost use Rattle.pcm_desk.specs.declared.limits.TheConstants.{DESCRIPTORS};
 ghost use Rattle.pcm_desk.specs.Device.{play_slots};
-ghost use Rattle.pcm_desk.specs.Desk.{asking, desk_here, ioctl_on, member_refusal, play_at};
+ghost use Rattle.pcm_desk.specs.Channels.{asking, member_refusal};
+ghost use Rattle.pcm_desk.specs.Desk.{desk_here, play_at};
 ghost use Rattle.pcm_desk.specs.Own.{slots_of};
 ghost use Rattle.pcm_desk.specs.PlayBooks.{is_play_free};
+ghost use Rattle.pcm_engine.specs.Desks.{channel_asked};
 ghost use Rattle.pcm_engine.specs.Engines.{AreReady, desk_of, device_of};
 ghost use Rattle.pcm_status.specs.Statuses.{would};
 
@@ -16,8 +18,8 @@ use pcm_engine::EngineOf;
 use pcm_feeder::Feeder;
 use pcm_oss::{Answer, Errno, Request, Way};
 
-/// What a request of the channel of a descriptor would be answered now. Nothing is done: a position that is told so isn't the one from which
-/// the next counts fragments, and no shortage is forgotten.
+/// What a request of the channel of a descriptor would be answered now. Nothing is done: the next position still counts fragments from the
+/// one answered before, and no shortage is forgotten.
 pub fn reply_of<B: Feeder>(engine: &EngineOf<B>, fd: u8, request: Request) -> Result<Answer, Errno>
     requires fd { fd < DESCRIPTORS }
     requires ready { AreReady B.kind B.kept engine.now }
@@ -43,7 +45,7 @@ fn channel_reply<B: Feeder>(
     requires taken { held.way ≡ Play
         → is_play_free (play_at (device_of engine.now) (desk_of engine.now) held.slot).state ≡ false }
     ensures { result
-        ≡ (ioctl_on (device_of engine.now) (Some held) (desk_of engine.now) request).reply }
+        ≡ (channel_asked (device_of engine.now) (desk_of engine.now) request (Some held)).reply }
 {
     match held.way {
         Way::Play => play_reply(engine, held.slot, request),

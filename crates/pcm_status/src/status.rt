@@ -1,4 +1,4 @@
-//! How a channel and a slot are.
+//! The status of a channel and of a slot.
 
 ghost use Rattle.std.specs.Prelude.{◌≡◌, ◌<◌, IfSome};
 ghost use Rattle.pcm_desk.specs.declared.limits.TheConstants.{DESCRIPTORS};
@@ -59,7 +59,7 @@ pub enum SlotState {
     Closing,
 }
 
-/// How a slot is.
+/// The status of a slot.
 #[derive(Clone, Copy, Debug, PartialEq, Eq)]
 pub struct SlotStatus {
     pub state: SlotState,
@@ -67,7 +67,7 @@ pub struct SlotStatus {
     pub frames: u64,
 }
 
-/// How the channel of a descriptor is, if it is open.
+/// The status of the channel of a descriptor, if it is open.
 pub fn client_status<B: Feeder>(engine: &EngineOf<B>, fd: u8) -> Option<ChannelStatus>
     requires fd { fd < DESCRIPTORS }
     requires ready { AreReady B.kind B.kept engine.now }
@@ -78,7 +78,7 @@ pub fn client_status<B: Feeder>(engine: &EngineOf<B>, fd: u8) -> Option<ChannelS
     Some(held_status(engine, held))
 }
 
-// How a channel is that a descriptor holds.
+// The status of a channel that a descriptor holds.
 fn held_status<B: Feeder>(engine: &EngineOf<B>, held: Held) -> ChannelStatus
     requires ready { AreReady B.kind B.kept engine.now }
     requires there { held.slot < slots_of (desk_of engine.now) held.way }
@@ -129,7 +129,7 @@ fn channel_status(
     }
 }
 
-/// How a slot of a way is, by its place among these.
+/// The status of a slot of a way, by its place among these.
 pub fn slot_status<B: Feeder>(engine: &EngineOf<B>, way: Way, place: usize) -> SlotStatus
     requires ready { AreReady B.kind B.kept engine.now }
     requires there { place < slots_of (desk_of engine.now) way }
@@ -142,7 +142,7 @@ pub fn slot_status<B: Feeder>(engine: &EngineOf<B>, way: Way, place: usize) -> S
     }
 }
 
-// How a slot is that plays.
+// The status of a slot that plays.
 fn play_slot_status<B: Feeder>(engine: &EngineOf<B>, slot: usize) -> SlotStatus
     requires ready { AreReady B.kind B.kept engine.now }
     requires there { slot < play_slots (device_of engine.now) }
@@ -170,7 +170,7 @@ fn still_given(book: &PlayBook, rate: Rate) -> u64
     book.giving(rate, u64::MAX)
 }
 
-// How a slot is that doesn't play.
+// The status of a slot that doesn't play.
 fn taken_slot(free: bool) -> SlotStatus
     ensures { result ≡ record { state = taken_slot free; frames = 0 } }
 {

@@ -2,7 +2,8 @@
 
 ghost use Rattle.std.specs.Prelude.{◌≡◌, ◌<◌, ◌≤◌, ◌+◌, ◌^◌, true, false, Some};
 ghost use Rattle.pcm_desk.specs.declared.limits.TheConstants.{DESCRIPTORS};
-ghost use Rattle.pcm_desk.specs.Desk.{held_by, mixing, play_at, play_rate_at, record_at};
+ghost use Rattle.pcm_desk.specs.Channels.{mixing, play_rate_at};
+ghost use Rattle.pcm_desk.specs.Desk.{held_by, play_at, record_at};
 ghost use Rattle.pcm_oss.specs.Fragments.{AreFragments};
 ghost use Rattle.pcm_desk.specs.declared.here.Here.{Here};
 ghost use Rattle.pcm_desk.specs.Device.{DeviceSeen, here_at, play_slots, record_slots};
@@ -21,13 +22,13 @@ use pcm_feeder::Feeder;
 use pcm_oss::{Errno, Way};
 use pcm_rate::Rate;
 
-/// After how many frames that are handed over a write of so many bytes is taken whole, or so many can be read, if nothing else happens
+/// After how many frames of the device a write of `bytes` bytes is taken whole, or as many can be read, if nothing else happens
 /// meanwhile: 0 where it is so now.
 ///
 /// # Errors
 ///
 /// `BadF` where the descriptor isn't open, `Inval` where its channel is mapped, which waits for nothing. `Busy` where it isn't so after `FRAMES_MOST`
-/// frames either: nothing takes or brings frames, or so many bytes never fit.
+/// frames either: nothing takes or brings frames, or `bytes` never fit.
 pub fn frames_until<B: Feeder>(engine: &EngineOf<B>, fd: u8, bytes: u32) -> Result<u64, Errno>
     requires fd { fd < DESCRIPTORS }
     requires ready { AreReady B.kind B.kept engine.now }
@@ -78,7 +79,7 @@ fn first_between<B: Feeder>(engine: &EngineOf<B>, fd: u8, held: Held, bytes: u32
     after
 }
 
-// Whether a client can go on after so many frames.
+// Whether a client can go on after `frames` frames.
 fn goes_on_after<B: Feeder>(
     engine: &EngineOf<B>,
     fd: u8,
@@ -98,7 +99,7 @@ fn goes_on_after<B: Feeder>(
     }
 }
 
-// The book of a slot that plays, after so many frames.
+// The book of a slot that plays, after `frames` frames.
 fn play_book_after<B: Feeder>(engine: &EngineOf<B>, slot: usize, frames: u64) -> PlayBook
     requires ready { AreReady B.kind B.kept engine.now }
     requires there { slot < play_slots (device_of engine.now) }
@@ -118,7 +119,7 @@ fn play_book_after<B: Feeder>(engine: &EngineOf<B>, slot: usize, frames: u64) ->
     book_mixed(book, rate, mixed, after.mixed - mixed).settled(rate, after)
 }
 
-// A book once so many frames more were mixed.
+// A book once `more` frames more were mixed.
 fn book_mixed(book: PlayBook, rate: Rate, mixed: u64, more: u64) -> PlayBook
     requires ratio { IsRatio rate }
     requires given { book.given + more < 2 ^ 64 }
@@ -135,7 +136,7 @@ fn book_mixed(book: PlayBook, rate: Rate, mixed: u64, more: u64) -> PlayBook
     }
 }
 
-// Where the mix and the device are after so many frames.
+// Where the mix and the device are after `frames` frames.
 fn here_after<B: Feeder>(engine: &EngineOf<B>, frames: u64) -> Here
     requires ready { AreReady B.kind B.kept engine.now }
     requires few { frames ≤ FRAMES_MOST }
@@ -149,7 +150,7 @@ fn here_after<B: Feeder>(engine: &EngineOf<B>, frames: u64) -> Here
     }
 }
 
-// The book of a slot that records, after so many frames.
+// The book of a slot that records, after `frames` frames.
 fn record_book_after<B: Feeder>(engine: &EngineOf<B>, slot: usize, frames: u64) -> RecordBook
     requires ready { AreReady B.kind B.kept engine.now }
     requires there { slot < record_slots (device_of engine.now) }
@@ -168,7 +169,7 @@ fn record_book_after<B: Feeder>(engine: &EngineOf<B>, slot: usize, frames: u64) 
     book.captured(engine.record_rate(slot), frames)
 }
 
-/// Whether a write of so many bytes would be taken whole.
+/// Whether a write of `bytes` bytes would be taken whole.
 pub fn takes_whole(book: PlayBook, bytes: u32) -> bool
     requires fragments { AreFragments book.opening.fragments }
     ensures { (here : Here) → result ≡ counts bytes (write_turn here bytes book).reply }
@@ -180,7 +181,7 @@ pub fn takes_whole(book: PlayBook, bytes: u32) -> bool
     open && u128::from(bytes) <= free
 }
 
-/// Whether so many bytes could be read.
+/// Whether `bytes` bytes could be read.
 pub fn has_whole(book: RecordBook, bytes: u32) -> bool
     ensures { result ≡ counts bytes (read_turn bytes book).reply }
 {

@@ -27,7 +27,8 @@ use Rattle.pcm_desk.specs.declared.map_book.MapBook.{MapBook}
 use Rattle.pcm_desk.specs.declared.opening.Opening.{Opening}
 use Rattle.pcm_desk.specs.MapBooks.{is_map_free, taken_of}
 use Rattle.pcm_desk.specs.RecordBooks.{is_record_free}
-use Rattle.pcm_desk.specs.Desk.{capturing, least_free_map, least_free_play, least_free_record, map_passing, mixed_by, mixing, play_passing, play_rate_at}
+use Rattle.pcm_desk.specs.Channels.{capturing, map_passing, mixed_by, mixing, play_passing, play_rate_at}
+use Rattle.pcm_desk.specs.Desk.{least_free_map, least_free_play, least_free_record}
 use Rattle.pcm_play.specs.declared.channel.PlayChannelOf.{PlayChannelOf}
 use Rattle.pcm_bus.proofs.Channels.{map_at-channel, play_at-channel, some_channel}
 use Rattle.pcm_vchan.specs.declared.parent.ParentOf.{ParentOf}
@@ -268,7 +269,7 @@ moves-settled {B = B} kind kept filters frames old between new first last =
       given = omega arith;
     }
 
--- a channel of a device once so many frames were mixed, and others handed over
+-- a channel of a device after an interrupt that mixes `frames` frames and gives `n` to the device
 record IsPassed {B : Type 0} (kind : B → Kind) (kept : B → Kept) (filters : Filters) (device : Device) (handed n frames : ℕ) (old new : PlayChannelOf B) : Type 0 where
   pub own : new.path.device ≡ device
   pub moves : PlayMoves kind kept filters [] frames old new

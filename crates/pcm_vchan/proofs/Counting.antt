@@ -1,14 +1,14 @@
--- The counts of what is mixed and handed over have room for an interrupt where one of them has.
+-- The counts of frames mixed and given to the device have room for an interrupt where one of them has.
 use Rattle.std.proofs.Common.{◌≡◌, ◌⊎◌, ℕ, pos, ◌+◌, ◌*◌, ◌^◌, ◌<◌, ◌≤◌, inl, inr, arith}
 use Rattle.std.specs.Prelude.{◌≤ℤ◌}
 use Rattle.std.proofs.lemmas.Int.{ints}
 use Rattle.pcm_chain.proofs.Counting.{need-near, rate-near}
-use Rattle.pcm_desk.specs.Desk.{mixed_by}
+use Rattle.pcm_desk.specs.Channels.{mixed_by}
 use Rattle.pcm_desk.specs.Device.{DeviceSeen, IsDevice, mix_frames, mixed_for, parent_plan, parent_rate, passed_for, ring_frames}
 use Rattle.pcm_desk.proofs.Passing.{handed-most, past-is}
 use Rattle.pcm_desk.proofs.Ratios.{mix-within, mixed-behind, parent-plan-fits}
 
--- an interrupt of n frames, where so many were mixed and handed over before
+-- an interrupt of n frames, after `mixed` frames of the mix and `handed` of the device
 pub record AreCounted (device : DeviceSeen) (mixed handed n : ℕ) : Type 0 where
   pub handed_fit : handed + n < 2 ^ 64
   pub mixed_fit : mixed + mixed_by device handed n < 2 ^ 64

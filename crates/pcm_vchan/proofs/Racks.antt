@@ -21,7 +21,7 @@ part-of-first n m k list within =
     ∙ ap (take m) (drop-take n (k - n) list)
     ∙ take-take m (k - n) (drop n list) (omega arith)
 
--- what stands behind so many is left without them
+-- without its first n items, a list is what stands after them
 pub drop_length : {X : Type 0} (front rest : List X) (n : ℕ) → length front ≡ n → drop n (front ++ rest) ≡ rest
 drop_length front rest n long =
     drop-append-le n front rest (omega (arith, long)) ∙ ap (λ list. list ++ rest) (drop_all n front (omega (arith, long)))

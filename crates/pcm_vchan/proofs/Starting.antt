@@ -14,7 +14,7 @@ use Rattle.pcm_desk.specs.declared.play_book.PlayBook.{PlayBook}
 use Rattle.pcm_desk.specs.declared.record_book.RecordBook.{RecordBook}
 use Rattle.pcm_desk.specs.Device.{seen}
 use Rattle.pcm_desk.specs.PlayBooks.{play_is_ready}
-use Rattle.pcm_desk.specs.Desk.{play_starting, record_starting}
+use Rattle.pcm_desk.specs.Channels.{play_starting, record_starting}
 use Rattle.pcm_play.specs.declared.channel.PlayChannelOf.{PlayChannelOf}
 use Rattle.pcm_play.proofs.Moving.{moves-nothing}
 use Rattle.pcm_record.specs.declared.channel.RecordChannelOf.{RecordChannelOf}
@@ -33,7 +33,7 @@ pub records-none : {B : Type 0} (kind : B → Kind) (kept : B → Kept) (filters
 records-none kind kept filters true channel e = cc
 records-none kind kept filters false channel e = record { device_same = refl; book = refl; moves = recorders.moves-nothing kind kept filters [] 0 channel }
 
--- whether all members from one slot on are ready, by that one and those behind it
+-- whether all members from one slot on are ready, by that one and those after it
 pub ready-step : {B : Type 0} (group : ℕ) (slots : List ℕ) (channels : List (PlayChannelOf B)) (slot : ℕ) (channel : PlayChannelOf B) → 0 < group → slot < length channels → channel ≡ get_or channels slot channel
     → all_in group play_is_ready (drop slot slots) (drop slot (play_books_of channels))
     ≡ ((not (is_in slots group slot) || play_is_ready channel.book) && all_in group play_is_ready (drop (slot + 1) slots) (drop (slot + 1) (play_books_of channels)))

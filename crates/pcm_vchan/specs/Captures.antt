@@ -6,7 +6,7 @@ use Rattle.pcm_feeder.specs.Kept.{Kept}
 use Rattle.pcm_feeder.specs.Streams.{frames_of}
 use Rattle.pcm_desk.specs.Device.{DeviceSeen, device_settings, filters_of}
 use Rattle.pcm_desk.specs.RecordBooks.{keeping}
-use Rattle.pcm_desk.specs.Desk.{capturing, record_rate_at}
+use Rattle.pcm_desk.specs.Channels.{capturing, record_rate_at}
 use Rattle.pcm_record.specs.declared.channel.RecordChannelOf.{RecordChannelOf}
 use Rattle.pcm_record.specs.Channels.{RecordMoves}
 use Rattle.pcm_bus.specs.Slots.{Each}

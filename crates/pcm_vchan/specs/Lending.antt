@@ -1,4 +1,4 @@
--- What becomes of a parent whose channel was lent.
+-- What a parent becomes when the borrower of one of its parts returns it.
 use Rattle.std.specs.Prelude.{ℕ, ◌-◌}
 use Rattle.std.specs.Borrow.{Lends, MutBor, Fml, RattleType}
 use Rattle.pcm_fixed.specs.Fixed.{with_fixed_item}
@@ -29,11 +29,11 @@ with_recorder parent slot channel = record parent { recorders = with_fixed_item 
 abbrev pub LendsRecorder : (R : RattleType) → MutBor (ParentOf R.Denot) → ℕ → MutBor (RecordChannelOf R.Denot) → Fml
 LendsRecorder R parent slot channel = Lends (the_row R) (recorder_row R) parent channel (λ last. with_recorder parent.now slot last)
 
--- where the mapped channel of a slot stands among these, which are numbered behind those that play
+-- where the mapped channel of a slot stands among these, which are numbered after those that play
 abbrev pub map_place : {B : Type 0} → ParentOf B → ℕ → ℕ
 map_place parent number = number - parent.device.play_slots
 
--- a parent with another mapped channel at such a place
+-- a parent with another mapped channel at a place
 abbrev pub with_map_channel : {B : Type 0} → ParentOf B → ℕ → MapChannelOf B → ParentOf B
 with_map_channel parent place channel = record parent { maps = with_fixed_item parent.maps place channel }
 

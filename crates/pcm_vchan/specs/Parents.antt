@@ -23,7 +23,8 @@ use Rattle.pcm_feeder.specs.Kept.{Kept}
 use Rattle.pcm_desk.specs.PlayBooks.{play_begun}
 use Rattle.pcm_desk.specs.RecordBooks.{record_begun}
 use Rattle.pcm_desk.specs.MapBooks.{map_begun, taken_of}
-use Rattle.pcm_desk.specs.Desk.{least_free_map, least_free_play, least_free_record, mixed_by, slot_number}
+use Rattle.pcm_desk.specs.Channels.{mixed_by}
+use Rattle.pcm_desk.specs.Desk.{least_free_map, least_free_play, least_free_record, slot_number}
 use Rattle.pcm_play.specs.declared.channel.PlayChannelOf.{PlayChannelOf}
 use Rattle.pcm_play.specs.Channels.{IsPlayReady, IsPlayUnopened, PlayMoves}
 use Rattle.pcm_record.specs.declared.channel.RecordChannelOf.{RecordChannelOf}
@@ -61,8 +62,8 @@ record_books parent = record_books_of (record_channels parent)
 abbrev pub map_books : {B : Type 0} → ParentOf B → List MapBook
 map_books parent = map_books_of (map_channels parent)
 
--- Each slot has the boxes of its own rack: those that play have the first ones, mapped ones those behind them, those that record the ones
--- from the seventeenth on, and the bus has the one behind all of these.
+-- Each slot has the boxes of its own rack: those that play have the first ones, mapped ones those after them, those that record the ones
+-- from the seventeenth on, and the bus has the one after all of these.
 pub record HasRacks {B : Type 0} (mark : B → ℕ) (racks : List (RackOf B)) (parent : ParentOf B) : Type 0 where
   pub playing : play_marks mark (play_channels parent) ≡ rack_marks mark (take parent.device.play_slots racks)
   pub mapped : map_marks mark (map_channels parent) ≡ rack_marks mark (take parent.device.map_slots (drop parent.device.play_slots racks))
@@ -105,7 +106,7 @@ TotalsFit parent = All (λ channel. channel.book.done + channel.book.written < 2
 abbrev pub TakenFit : {B : Type 0} → ParentOf B → Type 0
 TakenFit parent = All (λ channel. taken_of channel.book < 2 ^ 64) (map_channels parent)
 
--- few enough frames were mixed so far, or are handed over by the end of an interrupt of n, that the counts of both have room
+-- few enough frames were mixed so far, or are given to the device by the end of an interrupt of n, that the counts of both have room
 abbrev pub HasRoomFor : {B : Type 0} → ℕ → ParentOf B → Type 0
 HasRoomFor n parent = (parent.mixed < 2 ^ 56) ⊎ (parent.handed + n < 2 ^ 56)
 
@@ -113,7 +114,7 @@ HasRoomFor n parent = (parent.mixed < 2 ^ 56) ⊎ (parent.handed + n < 2 ^ 56)
 abbrev pub mixed_in : {B : Type 0} → Filters → ℕ → ParentOf B → ℕ
 mixed_in filters n parent = mixed_by (seen filters parent.device) parent.handed n
 
--- its bus goes by its plan, and has made what was handed over; just what that needs was mixed
+-- its bus goes by its plan, and has made as many frames as the device has been given; just what these need was mixed
 pub record HasBus {B : Type 0} (kept : B → Kept) (device : DeviceSeen) (parent : ParentOf B) : Type 0 where
   pub planned : IsPlannedBy device parent.bus.chain
   pub made : HasMadeSome kept device parent.bus.chain parent.handed
@@ -123,7 +124,7 @@ pub record HasBus {B : Type 0} (kept : B → Kept) (device : DeviceSeen) (parent
 abbrev pub here_of : {B : Type 0} → ParentOf B → Here
 here_of parent = record { mixed = parent.mixed; passed = passed_for (unfiltered parent.device) parent.handed }
 
--- all are ready for an interrupt of so many frames, and so is its bus
+-- all are ready for an interrupt of `frames` frames, and so is its bus
 pub record AreDue {B : Type 0} (kind : B → Kind) (kept : B → Kept) (filters : Filters) (frames : ℕ) (parent : ParentOf B) : Type 0 where
   pub playing : All (IsPlayDue kind kept filters parent.device (mixed_in filters frames parent)) (play_channels parent)
   pub recording : All (IsRecordDue kind kept filters parent.device frames) (record_channels parent)
@@ -186,7 +187,7 @@ abbrev pub books_begun : {Book : Type 0} → Option ℕ → Book → List Book �
 books_begun None begun books = books
 books_begun (Some slot) begun books = slice_set books slot begun
 
--- an open of a way with so many slots, whose places have these numbers: the least free one of them begins, if there is one
+-- an open of a way with `slots` slots, whose places have these numbers: the least free one of them begins, if there is one
 pub record Begins {Book : Type 0} (number : ℕ → ℕ) (slots : ℕ) (least : Option ℕ) (begun : Book) (old new : List Book) (result : Result ℕ Errno) : Type 0 where
   pub found : result ≡ slot_or_busy number least
   pub books : new ≡ books_begun least begun old

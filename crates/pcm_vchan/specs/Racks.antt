@@ -1,4 +1,4 @@
--- What tells the boxes of channels from others.
+-- What sets the boxes of channels apart from others.
 use Rattle.std.specs.Prelude.{ℕ, List, map}
 use Rattle.pcm_feeder.specs.declared.rack.SevenOf.{SevenOf}
 use Rattle.pcm_chain.specs.Chains.{marks_in}

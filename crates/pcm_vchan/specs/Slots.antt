@@ -8,7 +8,7 @@ use Rattle.pcm_oss.specs.declared.event.Way.{Way}
 use Rattle.pcm_desk.specs.declared.record_book.RecordBook.{RecordBook}
 use Rattle.pcm_desk.specs.declared.device.Device.{Device}
 use Rattle.pcm_desk.specs.declared.here.Here.{Here}
-use Rattle.pcm_desk.specs.Desk.{by_way, play_passing}
+use Rattle.pcm_desk.specs.Channels.{by_way, play_passing}
 use Rattle.pcm_desk.specs.Device.{DeviceSeen}
 use Rattle.pcm_play.specs.declared.channel.PlayChannelOf.{PlayChannelOf}
 use Rattle.pcm_oss.specs.declared.fragments.TheConstants.{RING_BYTES}
@@ -19,15 +19,15 @@ use Rattle.pcm_map.specs.declared.channel.MapChannelOf.{MapChannelOf}
 use Rattle.pcm_map.specs.Channels.{MapMoves, area_of}
 use Rattle.pcm_sound.specs.Areas.{silences, silent_area}
 
--- the place of a slot among those of its way, by its number, beside so many that play: `slot_number` backwards
+-- the place of a slot among those of its way, by its number, beside `slots` that play: `slot_number` backwards
 abbrev pub slot_place : ℕ → Way → ℕ → ℕ
 slot_place slots way number = by_way way number number (number - slots)
 
--- the book of a channel after an interrupt of n frames, where so many were handed over before
+-- the book of a channel after an interrupt of n frames, where the device had been given `handed` before
 abbrev pub Passes : {B : Type 0} → DeviceSeen → ℕ → ℕ → PlayChannelOf B → PlayChannelOf B → Type 0
 Passes device handed n old new = new.book ≡ play_passing device handed n old.book
 
--- what frames that are handed over leave of a channel
+-- what a hand-over leaves of a channel
 pub record Settles {B : Type 0} (kind : B → Kind) (kept : B → Kept) (here : Here) (old new : PlayChannelOf B) : Type 0 where
   pub device_same : new.path.device ≡ old.path.device
   pub book : SettlesBook here old new
@@ -48,7 +48,7 @@ abbrev pub AllRecordStand : {B : Type 0} → (B → Kept) → Filters → List (
 AllRecordStand kept filters channels bytes frames = (slot : ℕ) (other : RecordChannelOf _) → slot < length channels
     → RecordStands kept filters (slice_index_or channels slot other) (slice_index_or channels slot other).book (bytes slot) (frames slot)
 
--- a channel of this device is ready for an interrupt that captures so many frames, and its counts have room for them
+-- a channel of this device is ready for an interrupt that captures `frames` frames, and its counts have room for them
 pub record IsRecordDue {B : Type 0} (kind : B → Kind) (keeps : B → Kept) (filters : Filters) (device : Device) (frames : ℕ) (channel : RecordChannelOf B) : Type 0 where
   pub own : channel.path.device ≡ device
   pub ready : IsRecordReady kind keeps filters channel
@@ -57,7 +57,7 @@ pub record IsRecordDue {B : Type 0} (kind : B → Kind) (keeps : B → Kept) (fi
 
 -- ---- mapped channels
 
--- What a call leaves of a channel, which writes so into its area: it takes nothing, and the area is silent anew where another opening
+-- What a call leaves of a channel, which writes so into its area: it takes nothing, and the area is silent again where another opening
 -- begins, or its format, its channels or its fragments are others.
 pub record MapKeeps {B : Type 0} (kind : B → Kind) (kept : B → Kept) (filters : Filters) (writes : List ℕ → List ℕ) (old new : MapChannelOf B) : Type 0 where
   pub moves : MapMoves kind kept filters [] 0 old new

@@ -7,7 +7,7 @@ use Rattle.pcm_feeder.specs.Racks.{HaveKinds}
 use Rattle.pcm_chain.specs.Chains.{boxes_in}
 use Rattle.pcm_desk.specs.declared.here.Here.{Here}
 use Rattle.pcm_desk.specs.Device.{seen}
-use Rattle.pcm_desk.specs.Desk.{play_starting, record_starting}
+use Rattle.pcm_desk.specs.Channels.{play_starting, record_starting}
 use Rattle.pcm_play.specs.declared.channel.PlayChannelOf.{PlayChannelOf}
 use Rattle.pcm_play.specs.Channels.{IsPlayHere, IsPlayServed, PlayMoves}
 use Rattle.pcm_record.specs.declared.channel.RecordChannelOf.{RecordChannelOf}

@@ -1,5 +1,5 @@
 //! What all clients of a device share: the slots, the mix, and the ring that the device takes from.
-//! An interrupt hands the oldest frames over, mixes what as many new ones need from all slots in their order, and makes these of it.
+//! An interrupt gives the oldest frames to the device, mixes what as many new ones need from all slots in order, and makes these of it.
 #![tactic(auto)]
 
 mod parent;

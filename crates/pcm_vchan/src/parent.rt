@@ -12,7 +12,8 @@ ghost use Rattle.pcm_oss.specs.declared.event.TheConstants.{SLOTS};
 ghost use Rattle.pcm_mixdev.specs.Mixers.{full_mixer};
 ghost use Rattle.pcm_desk.specs.Device.{mixed_slots, passed_for, seen, unfiltered, HasRates};
 ghost use Rattle.pcm_group.specs.Groups.{all_in, change_in};
-ghost use Rattle.pcm_desk.specs.Desk.{play_starting, record_starting, slot_number};
+ghost use Rattle.pcm_desk.specs.Channels.{play_starting, record_starting};
+ghost use Rattle.pcm_desk.specs.Desk.{slot_number};
 ghost use Rattle.pcm_desk.specs.Here.{IsHere};
 ghost use Rattle.pcm_desk.specs.PlayBooks.{is_play_free, play_is_ready};
 ghost use Rattle.pcm_desk.specs.RecordBooks.{is_record_free};
@@ -45,7 +46,7 @@ use pcm_ring::ByteRing;
 use std::alloc::{AllocError, Global};
 
 /// The channels of a device by slot, those that play, those that record and the mapped ones, its mixer device, the bus from what is played to its
-/// ring, which is always full, how many frames were handed over and mixed, and how many of these have left the ring.
+/// ring, which is always full, how many frames the device has been given and how many were mixed, and how many of these have left the ring.
 #[derive(Drop)]
 pub struct ParentOf<B> {
     pub device: Device,
@@ -77,7 +78,7 @@ impl<B: Feeder> ParentOf<B> {
     ghost use Rattle.pcm_vchan.specs.Lending.{map_place, LendsChannel, LendsMap, LendsMixer, LendsRecorder};
 
     /// A device that nobody has opened, whose ring is full of silence. Each slot gets a rack: those that play the first ones, mapped ones
-    /// those behind them, those that record the ones from the seventeenth on, and the bus the last one.
+    /// those after them, those that record the ones from the seventeenth on, and the bus the last one.
     pub fn new(
         alloc: Global,
         device: Device,
@@ -123,7 +124,7 @@ impl<B: Feeder> ParentOf<B> {
         })
     }
 
-    /// An opening begins in the least free slot of its way. Answers the number of this slot: mapped ones are numbered behind those that play.
+    /// An opening begins in the least free slot of its way. Answers the number of this slot: mapped ones are numbered after those that play.
     pub fn open_slot(
         &mut self,
         tables: &Tables,
@@ -193,7 +194,7 @@ impl<B: Feeder> ParentOf<B> {
         Ok(self.device.play_slots as usize + slot)
     }
 
-    /// The number of a slot that stands at such a place among those of its way.
+    /// The number of a slot, by its place among those of its way.
     pub fn number_of(&self, way: Way, place: usize) -> usize
         requires { place < SLOTS }
         ensures { result ≡ slot_number self.now.device.play_slots way place }
@@ -307,8 +308,8 @@ impl<B: Feeder> ParentOf<B> {
         start_recording(&mut self.recorders, tables, groups, group);
     }
 
-    /// The device's interrupt: hands the oldest `n` frames over, mixes what the next ones need from all channels that play, at the gains of the mixer device, and gives
-    /// `n` captured ones to all that record. Then draining runs end whose last frame was handed over.
+    /// The device's interrupt: gives the oldest `n` frames to the device, mixes what the next ones need from all channels that play, at the
+    /// gains of the mixer device, and gives `n` captured ones to all that record. Then draining runs end whose last frame has left the ring.
     pub fn interrupt(&mut self, tables: &Tables, n: usize, captured: &[i32], out: &mut [u8])
         requires some { 0 < n }
         requires within { n ≤ self.old.device.ring_frames }
@@ -352,7 +353,7 @@ impl<B: Feeder> ParentOf<B> {
         self.pass(n, mixed);
     }
 
-    // So many frames were handed over, and so many mixed for them: draining runs end whose last frame has left the ring.
+    // The device has been given `n` frames, and `mixed` were mixed for them: draining runs end whose last frame has left the ring.
     fn pass(&mut self, n: usize, mixed: usize)
         requires handed { self.old.handed + n < 2 ^ 64 }
         requires mixed { self.old.mixed + mixed < 2 ^ 64 }

@@ -1,4 +1,4 @@
-//! What frames that are handed over end: the runs of channels that play, in the order of their slots.
+//! What a hand-over ends: the runs of channels that play, in the order of their slots.
 
 ghost use Rattle.std.specs.Prelude.{◌<◌, length, All};
 ghost use Rattle.pcm_bus.specs.Slots.{AtSlot, ChangesAt, Each, OthersStay};

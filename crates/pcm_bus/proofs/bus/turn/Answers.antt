@@ -6,7 +6,7 @@ use Rattle.pcm_format.proofs.Streams.{channels_of-most}
 use Rattle.pcm_feeder.specs.Streams.{interleaved}
 use Rattle.pcm_plan.specs.Through.{recs}
 use Rattle.pcm_desk.specs.Device.{DeviceSeen, filters_of, mix_frames, parent_plan, seen, unfiltered}
-use Rattle.pcm_desk.specs.Desk.{mixed_by}
+use Rattle.pcm_desk.specs.Channels.{mixed_by}
 use Rattle.pcm_bus.specs.Blocks.{turned_ring, whole_block}
 use Rattle.pcm_bus.specs.Buses.{mixed_at_once}
 use Rattle.pcm_bus.specs.Handovers.{AreMixedFor, HasMade, raised_frames}

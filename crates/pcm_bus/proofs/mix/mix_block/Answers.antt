@@ -12,7 +12,7 @@ use Rattle.pcm_mixdev.specs.Mixers.{master_gain, slot_gain}
 use Rattle.pcm_mixdev.proofs.FadedBits.{faded-fits}
 use Rattle.pcm_mixdev.proofs.FadedFrames.{faded-nothing}
 use Rattle.pcm_desk.specs.Device.{seen}
-use Rattle.pcm_desk.specs.Desk.{map_mixing, mixing}
+use Rattle.pcm_desk.specs.Channels.{map_mixing, mixing}
 use Rattle.pcm_sound.specs.MapRuns.{area_taken}
 use Rattle.pcm_play.proofs.Moving.{moves-nothing}
 use Rattle.pcm_map.specs.Channels.{area_of}

@@ -3,7 +3,7 @@ use Rattle.std.proofs.lemmas.Bool.{cases_lt, cases_eq}
 use Rattle.pcm_feeder.specs.declared.stage.Gain.{Gain}
 use Rattle.pcm_mixdev.specs.Mixers.{slot_gain}
 use Rattle.pcm_desk.specs.Device.{DeviceSeen, seen}
-use Rattle.pcm_desk.specs.Desk.{mixing}
+use Rattle.pcm_desk.specs.Channels.{mixing}
 use Rattle.pcm_sound.specs.Added.{turned}
 use Rattle.pcm_play.specs.declared.channel.PlayChannelOf.{PlayChannelOf}
 use Rattle.pcm_play.specs.Channels.{PlayStands, PlayMoves}

@@ -1,7 +1,7 @@
 use Rattle.std.proofs.Common.{◌≡◌, ℕ, List, ◌<◌, ◌≤◌, [], length, slice_index_or}
 use Rattle.pcm_mixdev.specs.Mixers.{slot_gain}
 use Rattle.pcm_desk.specs.Device.{seen}
-use Rattle.pcm_desk.specs.Desk.{mixing}
+use Rattle.pcm_desk.specs.Channels.{mixing}
 use Rattle.pcm_play.specs.declared.channel.PlayChannelOf.{PlayChannelOf}
 use Rattle.pcm_bus.specs.Slots.{AllPlayStand, play_books_of}
 use Rattle.pcm_path.specs.Paths.{HoldBlock}

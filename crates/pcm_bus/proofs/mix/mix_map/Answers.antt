@@ -4,7 +4,7 @@ use Rattle.pcm_num.specs.Limit.{FitsBits}
 use Rattle.pcm_format.specs.Formats.{bits_of}
 use Rattle.pcm_desk.specs.declared.device.Device.{Device}
 use Rattle.pcm_desk.specs.Device.{seen}
-use Rattle.pcm_desk.specs.Desk.{map_mixing}
+use Rattle.pcm_desk.specs.Channels.{map_mixing}
 use Rattle.pcm_sound.specs.Added.{map_turned}
 use Rattle.pcm_path.specs.Paths.{HoldBlock}
 use Rattle.pcm_map.specs.declared.channel.MapChannelOf.{MapChannelOf}

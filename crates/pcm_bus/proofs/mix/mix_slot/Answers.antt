@@ -4,7 +4,7 @@ use Rattle.pcm_num.specs.Limit.{FitsBits}
 use Rattle.pcm_format.specs.Formats.{bits_of}
 use Rattle.pcm_desk.specs.declared.device.Device.{Device}
 use Rattle.pcm_desk.specs.Device.{seen}
-use Rattle.pcm_desk.specs.Desk.{mixing}
+use Rattle.pcm_desk.specs.Channels.{mixing}
 use Rattle.pcm_sound.specs.Added.{turned}
 use Rattle.pcm_play.specs.declared.channel.PlayChannelOf.{PlayChannelOf}
 use Rattle.pcm_path.specs.Paths.{HoldBlock}

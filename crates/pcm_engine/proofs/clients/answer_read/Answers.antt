@@ -2,7 +2,8 @@ use Rattle.std.proofs.Common.{◌≡◌, ◌≤◌, ℕ, List, length, take, ap,
 use Rattle.std.proofs.lemmas.List.{take-append-le}
 use Rattle.pcm_oss.specs.Replies.{Reply, bytes_due}
 use Rattle.pcm_desk.specs.Device.{DeviceSeen, seen}
-use Rattle.pcm_desk.specs.Desk.{Desk, held_by, read_on}
+use Rattle.pcm_oss.specs.declared.event.Event.TheVariants.{Read}
+use Rattle.pcm_desk.specs.Desk.{Desk, channel_turn, held_by}
 use Rattle.pcm_engine.specs.Desks.{desk_with}
 use Rattle.pcm_engine.specs.Steps.{bytes_read}
 use Rattle.pcm_engine.proofs.clients.answer_read.Goals as goal
@@ -16,10 +17,10 @@ returns-clause-turn g c =
     let desk : Desk = desk_with c.args.parent.now c.args.descriptors.now in
     let asked = there c.args.len c.args.bytes.now c.requires.room c.requires.few in
     record {
-      desk = λ filters. c.read-answer.ensures.turn.desk filters ∙ ap (λ (n : ℕ). (read_on (seen filters c.args.parent.now.device) (held_by desk c.args.fd) desk n).desk) asked;
+      desk = λ filters. c.read-answer.ensures.turn.desk filters ∙ ap (λ (n : ℕ). (channel_turn (seen filters c.args.parent.now.device) desk (Read c.args.fd n) (held_by desk c.args.fd)).desk) asked;
       reply = λ filters.
           ap (λ (r : Reply). r.result) c.keep.ensures ∙ c.read-answer.ensures.turn.reply filters
-          ∙ ap (λ (n : ℕ). (read_on (seen filters c.args.parent.now.device) (held_by desk c.args.fd) desk n).reply) asked;
+          ∙ ap (λ (n : ℕ). (channel_turn (seen filters c.args.parent.now.device) desk (Read c.args.fd n) (held_by desk c.args.fd)).reply) asked;
     }
 
 pub returns-clause-bytes : goal.returns-clause-bytes

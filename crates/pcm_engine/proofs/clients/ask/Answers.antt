@@ -1,4 +1,4 @@
-use Rattle.std.proofs.Common.{rules, ◌+◌, ◌^◌, ◌<◌, [], get_or, refl, sym, ap, ◌∙◌, subst, arith}
+use Rattle.std.proofs.Common.{rules, ◌+◌, ◌^◌, ◌<◌, [], Option, get_or, refl, sym, ap, ◌∙◌, subst, arith}
 use Rattle.std.proofs.lemmas.Result.{on_err_weaker}
 use Rattle.pcm_fixed.proofs.Items.{item-kept, items-count}
 use Rattle.pcm_feeder.specs.Racks.{HaveKinds}
@@ -9,8 +9,10 @@ use Rattle.pcm_desk.specs.Device.{seen}
 use Rattle.pcm_desk.specs.MapBooks.{taken_of}
 use Rattle.pcm_desk.specs.MapRequests.{map_ask}
 use Rattle.pcm_desk.specs.RecordRequests.{record_ask}
+use Rattle.pcm_desk.specs.declared.device.Held.{Held}
 use Rattle.pcm_desk.specs.declared.here.Here.{Here}
-use Rattle.pcm_desk.specs.Desk.{DeskTurn, asking, desk_here, held_by, map_turn, play_turn, play_rate_at, record_turn}
+use Rattle.pcm_desk.specs.Channels.{asking, play_rate_at}
+use Rattle.pcm_desk.specs.Desk.{DeskTurn, desk_here, held_by}
 use Rattle.pcm_desk.proofs.Silent.{ask-silent, map-asked-silent, record-ask-silent}
 use Rattle.pcm_play.specs.declared.channel.PlayChannelOf.{PlayChannelOf}
 use Rattle.pcm_play.specs.Channels.{IsPlayHere, IsPlayServed, PlayMoves}
@@ -24,16 +26,21 @@ use Rattle.pcm_vchan.specs.Slots.{MapKeeps}
 use Rattle.pcm_vchan.proofs.Channels.{each_set, own_set, parent_same}
 use Rattle.pcm_vchan.specs.Parents.{map_channels, play_channels, record_channels, untouched}
 use Rattle.pcm_oss.specs.Replies.{bytes_due}
-use Rattle.pcm_engine.specs.Desks.{desk_with, ioctl_call}
+use Rattle.pcm_engine.specs.Desks.{channel_asked, desk_with, ioctl_call}
 use Rattle.pcm_vchan.proofs.Channels.{map-keeps-nothing}
 use Rattle.pcm_engine.proofs.Mapped.{keeps-asked}
 use Rattle.pcm_engine.proofs.Answering.{answers-nothing}
-use Rattle.pcm_engine.proofs.Turning.{desk-mapped, desk-played, desk-recorded, map-there, map-unfree, own-lent, play-there, record-there, reply-mapped, reply-played, reply-recorded, turning-held, holding-is}
+use Rattle.pcm_engine.proofs.Grouping.{handed-on}
+use Rattle.pcm_engine.proofs.Turning.{ask-not, found-way, desk-mapped, desk-played, desk-recorded, map-there, map-unfree, own-lent, play-there, record-there, reply-mapped, reply-played, reply-recorded, holding-is}
 use Rattle.pcm_engine.proofs.clients.ask.Goals as goal
 
 pub returns-in_err-held : goal.returns-in_err-held
 returns-in_err-held g c =
-    answers-nothing g.B.Feeder.kind g.B.Feeder.kept c.args.tables.now (ioctl_call c.args.fd c.args.request) c.args.parent.now c.args.descriptors.now _ c.requires.able.served (search rules) (search rules) (search rules)
+    let device = seen c.args.tables.now c.args.parent.now.device in
+    let desk = desk_with c.args.parent.now c.args.descriptors.now in
+    let none = ask-not device desk c.args.request (held_by desk c.args.fd) c.in_err-held.field-0.0 (sym c.holding.ensures ∙ c.in_err-held.was) in
+    answers-nothing g.B.Feeder.kind g.B.Feeder.kept c.args.tables.now (ioctl_call c.args.fd c.args.request) c.args.parent.now c.args.descriptors.now _ c.requires.able.served (search rules)
+    (sym (ap (λ (t : DeskTurn). t.desk) none)) (handed-on c.from_residual.result c.in_err-held.field-0.0 c.from_residual.ensures.0 c.from_residual.ensures.1 ∙ sym (ap (λ (t : DeskTurn). t.reply) none))
 
 pub play-requires : goal.play-requires
 play-requires g c =
@@ -120,11 +127,11 @@ returns-in-Play g c =
       desk =
           desk-played (seen c.args.tables.now parent.device) (asking (seen c.args.tables.now parent.device) (desk_here (seen c.args.tables.now parent.device) (desk_with parent c.args.descriptors.now)) c.args.request) parent c.args.descriptors.now held.slot lent c.ioctl.new.self there c.play.ensures.value
           (c.ioctl.ensures.book ∙ ap (λ (d : Device). (asking (seen c.args.tables.now d) c.args.here c.args.request lent.book).book) own ∙ ap (λ (here : Here). (asking (seen c.args.tables.now parent.device) here c.args.request lent.book).book) c.requires.able.at)
-          ∙ sym (ap (λ (t : DeskTurn). t.desk) (turning-held Play (play_turn (seen c.args.tables.now parent.device) (asking (seen c.args.tables.now parent.device) (desk_here (seen c.args.tables.now parent.device) (desk_with parent c.args.descriptors.now)) c.args.request) (desk_with parent c.args.descriptors.now)) (record_turn (seen c.args.tables.now parent.device) (record_ask c.args.request) (desk_with parent c.args.descriptors.now)) (map_turn (seen c.args.tables.now parent.device) (map_ask c.args.request) (desk_with parent c.args.descriptors.now)) (held_by (desk_with parent c.args.descriptors.now) c.args.fd) held (desk_with parent c.args.descriptors.now) e c.in-Play.is));
+          ∙ sym (ap (λ (found : Option Held). (channel_asked (seen c.args.tables.now parent.device) (desk_with parent c.args.descriptors.now) c.args.request found).desk) (found-way Play (held_by (desk_with parent c.args.descriptors.now) c.args.fd) held e c.in-Play.is));
       reply =
           reply-played (seen c.args.tables.now parent.device) (asking (seen c.args.tables.now parent.device) (desk_here (seen c.args.tables.now parent.device) (desk_with parent c.args.descriptors.now)) c.args.request) parent c.args.descriptors.now held.slot lent c.ioctl.result there c.play.ensures.value
           (c.ioctl.ensures.reply ∙ ap (λ (d : Device). (asking (seen c.args.tables.now d) c.args.here c.args.request lent.book).reply) own ∙ ap (λ (here : Here). (asking (seen c.args.tables.now parent.device) here c.args.request lent.book).reply) c.requires.able.at)
-          ∙ sym (ap (λ (t : DeskTurn). t.reply) (turning-held Play (play_turn (seen c.args.tables.now parent.device) (asking (seen c.args.tables.now parent.device) (desk_here (seen c.args.tables.now parent.device) (desk_with parent c.args.descriptors.now)) c.args.request) (desk_with parent c.args.descriptors.now)) (record_turn (seen c.args.tables.now parent.device) (record_ask c.args.request) (desk_with parent c.args.descriptors.now)) (map_turn (seen c.args.tables.now parent.device) (map_ask c.args.request) (desk_with parent c.args.descriptors.now)) (held_by (desk_with parent c.args.descriptors.now) c.args.fd) held (desk_with parent c.args.descriptors.now) e c.in-Play.is));
+          ∙ sym (ap (λ (found : Option Held). (channel_asked (seen c.args.tables.now parent.device) (desk_with parent c.args.descriptors.now) c.args.request found).reply) (found-way Play (held_by (desk_with parent c.args.descriptors.now) c.args.fd) held e c.in-Play.is));
       channels =
           each_set (PlayMoves g.B.Feeder.kind g.B.Feeder.kept c.args.tables.now [] 0) (play_channels parent) held.slot c.play.result.now c.ioctl.new.self there c.play.ensures.value c.ioctl.ensures.moves
           (moves-nothing g.B.Feeder.kind g.B.Feeder.kept c.args.tables.now [] 0);
@@ -150,10 +157,10 @@ returns-in-Record g c =
           c.ioctl-in-Record.ensures.refused;
       desk =
           desk-recorded (seen c.args.tables.now parent.device) (record_ask c.args.request) parent c.args.descriptors.now held.slot c.recorder.result.now c.ioctl-in-Record.new.self there c.recorder.ensures.value c.ioctl-in-Record.ensures.book
-          ∙ sym (ap (λ (t : DeskTurn). t.desk) (turning-held Record (play_turn (seen c.args.tables.now parent.device) (asking (seen c.args.tables.now parent.device) (desk_here (seen c.args.tables.now parent.device) (desk_with parent c.args.descriptors.now)) c.args.request) (desk_with parent c.args.descriptors.now)) (record_turn (seen c.args.tables.now parent.device) (record_ask c.args.request) (desk_with parent c.args.descriptors.now)) (map_turn (seen c.args.tables.now parent.device) (map_ask c.args.request) (desk_with parent c.args.descriptors.now)) (held_by (desk_with parent c.args.descriptors.now) c.args.fd) held (desk_with parent c.args.descriptors.now) e c.in-Record.is));
+          ∙ sym (ap (λ (found : Option Held). (channel_asked (seen c.args.tables.now parent.device) (desk_with parent c.args.descriptors.now) c.args.request found).desk) (found-way Record (held_by (desk_with parent c.args.descriptors.now) c.args.fd) held e c.in-Record.is));
       reply =
           reply-recorded (seen c.args.tables.now parent.device) (record_ask c.args.request) parent c.args.descriptors.now held.slot c.recorder.result.now c.ioctl-in-Record.result there c.recorder.ensures.value c.ioctl-in-Record.ensures.reply
-          ∙ sym (ap (λ (t : DeskTurn). t.reply) (turning-held Record (play_turn (seen c.args.tables.now parent.device) (asking (seen c.args.tables.now parent.device) (desk_here (seen c.args.tables.now parent.device) (desk_with parent c.args.descriptors.now)) c.args.request) (desk_with parent c.args.descriptors.now)) (record_turn (seen c.args.tables.now parent.device) (record_ask c.args.request) (desk_with parent c.args.descriptors.now)) (map_turn (seen c.args.tables.now parent.device) (map_ask c.args.request) (desk_with parent c.args.descriptors.now)) (held_by (desk_with parent c.args.descriptors.now) c.args.fd) held (desk_with parent c.args.descriptors.now) e c.in-Record.is));
+          ∙ sym (ap (λ (found : Option Held). (channel_asked (seen c.args.tables.now parent.device) (desk_with parent c.args.descriptors.now) c.args.request found).reply) (found-way Record (held_by (desk_with parent c.args.descriptors.now) c.args.fd) held e c.in-Record.is));
       channels = λ slot other there. moves-nothing g.B.Feeder.kind g.B.Feeder.kept c.args.tables.now [] 0 (get_or (play_channels c.args.parent.now) slot other);
       recorders =
           each_set (RecordMoves g.B.Feeder.kind g.B.Feeder.kept c.args.tables.now [] 0) (record_channels parent) held.slot c.recorder.result.now c.ioctl-in-Record.new.self there c.recorder.ensures.value c.ioctl-in-Record.ensures.moves
@@ -199,7 +206,7 @@ returns-in-Map g c =
     let held = c.in_ok-held.held in
     let e = holding-is (held_by (desk_with parent c.args.descriptors.now) c.args.fd) c.in_ok-held.held (sym c.holding.ensures ∙ c.in_ok-held.was) in
     let there = map-there parent c.args.descriptors.now c.args.fd held c.requires.apart e c.in-Map.is in
-    let unfree = map-unfree parent c.args.descriptors.now c.args.fd held c.mapped.result.now c.requires.apart e c.in-Map.is there c.mapped.ensures.value in
+    let unfree = map-unfree (seen c.args.tables.now parent.device) parent c.args.descriptors.now c.args.fd held c.mapped.result.now c.requires.apart e c.in-Map.is there c.mapped.ensures.value in
     record {
       silent = ap bytes_due c.ioctl-in-Map.ensures.reply ∙ map-asked-silent c.args.request c.mapped.result.now.book;
       own = search rules;
@@ -212,10 +219,10 @@ returns-in-Map g c =
           c.ioctl-in-Map.ensures.refused;
       desk =
           desk-mapped (seen c.args.tables.now parent.device) (map_ask c.args.request) parent c.args.descriptors.now held.slot c.mapped.result.now c.ioctl-in-Map.new.self there c.mapped.ensures.value c.ioctl-in-Map.ensures.book
-          ∙ sym (ap (λ (t : DeskTurn). t.desk) (turning-held Map (play_turn (seen c.args.tables.now parent.device) (asking (seen c.args.tables.now parent.device) (desk_here (seen c.args.tables.now parent.device) (desk_with parent c.args.descriptors.now)) c.args.request) (desk_with parent c.args.descriptors.now)) (record_turn (seen c.args.tables.now parent.device) (record_ask c.args.request) (desk_with parent c.args.descriptors.now)) (map_turn (seen c.args.tables.now parent.device) (map_ask c.args.request) (desk_with parent c.args.descriptors.now)) (held_by (desk_with parent c.args.descriptors.now) c.args.fd) held (desk_with parent c.args.descriptors.now) e c.in-Map.is));
+          ∙ sym (ap (λ (found : Option Held). (channel_asked (seen c.args.tables.now parent.device) (desk_with parent c.args.descriptors.now) c.args.request found).desk) (found-way Map (held_by (desk_with parent c.args.descriptors.now) c.args.fd) held e c.in-Map.is));
       reply =
           reply-mapped (seen c.args.tables.now parent.device) (map_ask c.args.request) parent c.args.descriptors.now held.slot c.mapped.result.now c.ioctl-in-Map.result there c.mapped.ensures.value c.ioctl-in-Map.ensures.reply
-          ∙ sym (ap (λ (t : DeskTurn). t.reply) (turning-held Map (play_turn (seen c.args.tables.now parent.device) (asking (seen c.args.tables.now parent.device) (desk_here (seen c.args.tables.now parent.device) (desk_with parent c.args.descriptors.now)) c.args.request) (desk_with parent c.args.descriptors.now)) (record_turn (seen c.args.tables.now parent.device) (record_ask c.args.request) (desk_with parent c.args.descriptors.now)) (map_turn (seen c.args.tables.now parent.device) (map_ask c.args.request) (desk_with parent c.args.descriptors.now)) (held_by (desk_with parent c.args.descriptors.now) c.args.fd) held (desk_with parent c.args.descriptors.now) e c.in-Map.is));
+          ∙ sym (ap (λ (found : Option Held). (channel_asked (seen c.args.tables.now parent.device) (desk_with parent c.args.descriptors.now) c.args.request found).reply) (found-way Map (held_by (desk_with parent c.args.descriptors.now) c.args.fd) held e c.in-Map.is));
       channels = λ slot other there. moves-nothing g.B.Feeder.kind g.B.Feeder.kept c.args.tables.now [] 0 (get_or (play_channels c.args.parent.now) slot other);
       recorders = λ slot other there. recorders.moves-nothing g.B.Feeder.kind g.B.Feeder.kept c.args.tables.now [] 0 (get_or (record_channels c.args.parent.now) slot other);
       maps =

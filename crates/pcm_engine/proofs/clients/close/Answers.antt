@@ -1,8 +1,7 @@
-use Rattle.pcm_desk.specs.declared.device.Held.{Held}
-use Rattle.std.proofs.Common.{rules, [], Option, Some, None, get_or, sym, ap, ◌∙◌, arith}
+use Rattle.std.proofs.Common.{rules, [], None, get_or, sym, ap, ◌∙◌, arith}
 use Rattle.pcm_fixed.proofs.Items.{items-count}
 use Rattle.pcm_desk.specs.Device.{seen}
-use Rattle.pcm_desk.specs.Desk.{Desk, close_on, leaving, left, with_descriptor, held_by}
+use Rattle.pcm_desk.specs.Desk.{Desk, held_by, leaving, with_descriptor}
 use Rattle.pcm_play.proofs.Moving.{moves-nothing}
 use Rattle.pcm_record.proofs.Moving as recorders
 use Rattle.pcm_vchan.specs.Parents.{map_channels, play_channels, record_channels}
@@ -29,13 +28,12 @@ returns-clause-desk g c =
     let descriptors = c.args.descriptors.now in
     let held = c.in_ok-held.held in
     let device = seen filters parent.device in
-    let parted : Descriptors = record descriptors { groups = leaving (Some held) descriptors.groups } in
+    let parted : Descriptors = record descriptors { groups = leaving held descriptors.groups } in
     let shut : Descriptors = with_held parted c.args.fd None in
     let found = holding-is (held_by (desk_with parent descriptors) c.args.fd) held (sym c.holding.ensures ∙ c.in_ok-held.was) in
     ap (desk_with c.close_channel-answer.new.parent) (c.set.ensures ∙ ap (λ (d : Descriptors). with_held d c.args.fd None) c.leave.ensures)
     ∙ ap (λ (d : Desk). with_descriptor d c.args.fd None) (c.close_channel-answer.ensures.desk filters parted ready at)
-    ∙ closes-held device (desk_with parent parted) c.args.fd (held_by (desk_with parent parted) c.args.fd) held found
-    ∙ ap (λ (h : Option Held). (close_on device (held_by (desk_with parent descriptors) c.args.fd) (left h (desk_with parent descriptors)) c.args.fd).desk) (sym found)
+    ∙ closes-held device (desk_with parent descriptors) c.args.fd held found
 
 pub leave-requires : goal.leave-requires
 leave-requires g c =

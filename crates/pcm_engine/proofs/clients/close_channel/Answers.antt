@@ -12,7 +12,8 @@ use Rattle.pcm_desk.specs.declared.record_book.RecordBook.{RecordBook}
 use Rattle.pcm_oss.specs.declared.reply.Answer.TheVariants.{Done}
 use Rattle.pcm_oss.specs.declared.event.Way.{Way}
 use Rattle.pcm_desk.specs.declared.here.Here.{Here}
-use Rattle.pcm_desk.specs.Desk.{Desk, by_way, closing, desk_here, map_at, play_at, record_at, with_map, with_play, with_record}
+use Rattle.pcm_desk.specs.Channels.{closing}
+use Rattle.pcm_desk.specs.Desk.{Desk, desk_here}
 use Rattle.pcm_play.specs.declared.channel.PlayChannelOf.{PlayChannelOf}
 use Rattle.pcm_play.specs.Channels.{IsPlayServed, PlayMoves}
 use Rattle.pcm_play.proofs.Moving.{moves-nothing}
@@ -23,10 +24,10 @@ use Rattle.pcm_map.specs.declared.channel.MapChannelOf.{MapChannelOf}
 use Rattle.pcm_vchan.specs.Slots.{MapKeeps}
 use Rattle.pcm_vchan.proofs.Channels.{each_set, own_set}
 use Rattle.pcm_vchan.specs.Parents.{map_channels, play_channels, record_channels, untouched}
-use Rattle.pcm_engine.specs.Desks.{desk_with}
+use Rattle.pcm_engine.specs.Desks.{closed_held, desk_with}
 use Rattle.pcm_vchan.proofs.Channels.{map-keeps-nothing}
 use Rattle.pcm_engine.proofs.Mapped.{keeps-closed}
-use Rattle.pcm_engine.proofs.Turning.{desk-mapped, desk-played, desk-recorded, own-lent}
+use Rattle.pcm_engine.proofs.Turning.{channel_of, desk-mapped, desk-played, desk-recorded, own-lent}
 use Rattle.pcm_engine.proofs.clients.close_channel.Goals as goal
 
 pub close-requires-in-Record : goal.close-requires-in-Record
@@ -72,7 +73,7 @@ returns-in-Play-clause-desk g c =
     let desk : Desk = desk_with parent descriptors in
     desk-played device (λ (book : PlayBook). record { book = closing device (desk_here device desk) book; reply = Ok Done }) parent descriptors held.slot lent c.close.new.self there c.play.ensures.value
     (c.close.ensures.book filters (subst (IsPlayServed filters) (sym c.play.ensures.value) (ready held.slot lent there).planned) ∙ ap (λ (d : Device). closing (seen filters d) c.args.here lent.book) own ∙ ap (λ (here : Here). closing device here lent.book) at)
-    ∙ sym (ap (λ (w : Way). by_way w (with_play desk held.slot (closing device (desk_here device desk) (play_at device desk held.slot))) (with_record desk held.slot (closed (record_at device desk held.slot))) (with_map desk held.slot (map_closed (map_at device desk held.slot)))) c.in-Play.is)
+    ∙ sym (ap (λ (w : Way). closed_held device desk (channel_of w held.slot)) c.in-Play.is)
 
 pub returns-in-Record-clause-closed : goal.returns-in-Record-clause-closed
 returns-in-Record-clause-closed g c =
@@ -106,7 +107,7 @@ returns-in-Record-clause-desk g c =
     let device = seen filters parent.device in
     let desk : Desk = desk_with parent descriptors in
     desk-recorded device (λ (book : RecordBook). record { book = closed book; reply = Ok Done }) parent descriptors held.slot c.recorder.result.now c.close-in-Record.new.self there c.recorder.ensures.value c.close-in-Record.ensures.book
-    ∙ sym (ap (λ (w : Way). by_way w (with_play desk held.slot (closing device (desk_here device desk) (play_at device desk held.slot))) (with_record desk held.slot (closed (record_at device desk held.slot))) (with_map desk held.slot (map_closed (map_at device desk held.slot)))) c.in-Record.is)
+    ∙ sym (ap (λ (w : Way). closed_held device desk (channel_of w held.slot)) c.in-Record.is)
 
 pub close-requires-in-Map : goal.close-requires-in-Map
 close-requires-in-Map g c =
@@ -149,4 +150,4 @@ returns-in-Map-clause-desk g c =
     let device = seen filters parent.device in
     let desk : Desk = desk_with parent descriptors in
     desk-mapped device (λ (book : MapBook). record { book = map_closed book; reply = Ok Done }) parent descriptors held.slot c.mapped.result.now c.close-in-Map.new.self there c.mapped.ensures.value c.close-in-Map.ensures.book
-    ∙ sym (ap (λ (w : Way). by_way w (with_play desk held.slot (closing device (desk_here device desk) (play_at device desk held.slot))) (with_record desk held.slot (closed (record_at device desk held.slot))) (with_map desk held.slot (map_closed (map_at device desk held.slot)))) c.in-Map.is)
+    ∙ sym (ap (λ (w : Way). closed_held device desk (channel_of w held.slot)) c.in-Map.is)

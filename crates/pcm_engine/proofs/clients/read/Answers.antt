@@ -1,11 +1,12 @@
-use Rattle.std.proofs.Common.{[], get_or, length, take, drop, refl, sym, ap, ◌∙◌, subst, arith}
+use Rattle.std.proofs.Common.{◌≡◌, [], Option, get_or, length, take, drop, refl, sym, ap, ◌∙◌, subst, arith}
 use Rattle.std.proofs.lemmas.Result.{on_err_weaker}
 use Rattle.pcm_fixed.proofs.Items.{item-kept, items-count}
+use Rattle.pcm_oss.specs.declared.event.Event.TheVariants.{Read}
 use Rattle.pcm_oss.specs.declared.event.Way.TheVariants.{Record}
-use Rattle.pcm_oss.specs.declared.reply.Errno.TheVariants.{Inval}
-use Rattle.pcm_desk.specs.Device.{seen}
+use Rattle.pcm_desk.specs.declared.device.Held.{Held}
+use Rattle.pcm_desk.specs.Device.{DeviceSeen, seen}
 use Rattle.pcm_desk.specs.RecordBooks.{read_turn}
-use Rattle.pcm_desk.specs.Desk.{DeskTurn, held_by, record_turn, refusing}
+use Rattle.pcm_desk.specs.Desk.{DeskTurn, channel_turn, held_by, record_unopened, refusing}
 use Rattle.pcm_desk.proofs.Silent.{read-due}
 use Rattle.pcm_record.specs.declared.channel.RecordChannelOf.{RecordChannelOf}
 use Rattle.pcm_record.specs.Channels.{RecordMoves, RecordStands}
@@ -13,8 +14,8 @@ use Rattle.pcm_record.proofs.Moving as recorders
 use Rattle.pcm_vchan.proofs.Channels.{each_set, own_set, parent_same}
 use Rattle.pcm_oss.specs.Replies.{bytes_due}
 use Rattle.pcm_engine.specs.Desks.{desk_with}
-use Rattle.pcm_engine.proofs.Turning.{bytes_read-held, desk-recorded, record-there, reply-recorded, turning-held, channel_of, slot-is}
-use Rattle.pcm_desk.specs.Desk.{record_unopened}
+use Rattle.pcm_engine.proofs.Turning.{bytes_read-held, desk-recorded, record-there, read-refused, reply-recorded, channel_of, slot-is}
+use Rattle.pcm_engine.proofs.Grouping.{handed-on}
 use Rattle.pcm_vchan.proofs.Channels.{record_at-channel}
 use Rattle.pcm_vchan.specs.Parents.{record_channels}
 use Rattle.pcm_engine.proofs.clients.read.Goals as goal
@@ -53,10 +54,10 @@ returns-clause-turn g c =
     record {
       desk = λ filters.
           desk-recorded (seen filters parent.device) (read_turn (length c.args.out.now)) parent c.args.descriptors.now held.slot c.recorder.result.now c.read.new.self there c.recorder.ensures.value c.read.ensures.book
-          ∙ sym (ap (λ (t : DeskTurn). t.desk) (turning-held Record (λ slot. refusing (desk_with parent c.args.descriptors.now) Inval) (record_turn (seen filters parent.device) (read_turn (length c.args.out.now)) (desk_with parent c.args.descriptors.now)) (λ slot. refusing (desk_with parent c.args.descriptors.now) Inval) (held_by (desk_with parent c.args.descriptors.now) c.args.fd) held (desk_with parent c.args.descriptors.now) e refl));
+          ∙ sym (ap (λ (found : Option Held). (channel_turn (seen filters parent.device) (desk_with parent c.args.descriptors.now) (Read c.args.fd (length c.args.out.now)) found).desk) e);
       reply = λ filters.
           reply-recorded (seen filters parent.device) (read_turn (length c.args.out.now)) parent c.args.descriptors.now held.slot c.recorder.result.now c.read.result there c.recorder.ensures.value c.read.ensures.reply
-          ∙ sym (ap (λ (t : DeskTurn). t.reply) (turning-held Record (λ slot. refusing (desk_with parent c.args.descriptors.now) Inval) (record_turn (seen filters parent.device) (read_turn (length c.args.out.now)) (desk_with parent c.args.descriptors.now)) (λ slot. refusing (desk_with parent c.args.descriptors.now) Inval) (held_by (desk_with parent c.args.descriptors.now) c.args.fd) held (desk_with parent c.args.descriptors.now) e refl));
+          ∙ sym (ap (λ (found : Option Held). (channel_turn (seen filters parent.device) (desk_with parent c.args.descriptors.now) (Read c.args.fd (length c.args.out.now)) found).reply) e);
     }
 
 pub returns-clause-recorders : goal.returns-clause-recorders
@@ -84,3 +85,15 @@ returns-clause-bytes g c = λ filters bytes frames stand.
 
 pub returns-in_err-slot-clause-recorders : goal.returns-in_err-slot-clause-recorders
 returns-in_err-slot-clause-recorders g c = λ filters slot other there. recorders.moves-nothing g.B.Feeder.kind g.B.Feeder.kept filters [] 0 (get_or (record_channels c.args.parent.now) slot other)
+
+pub returns-in_err-slot-clause-turn : goal.returns-in_err-slot-clause-turn
+returns-in_err-slot-clause-turn g c =
+    let desk = desk_with c.args.parent.now c.args.descriptors.now in
+    let refused : (device : DeviceSeen) → channel_turn device desk (Read c.args.fd (length c.args.out.now)) (held_by desk c.args.fd) ≡ refusing desk c.in_err-slot.field-0.0 =
+    λ device. read-refused device desk c.args.fd (length c.args.out.now) (held_by desk c.args.fd) c.in_err-slot.field-0.0 (sym c.slot_of.ensures ∙ c.in_err-slot.was) in
+    record {
+      desk = λ filters. sym (ap (λ (t : DeskTurn). t.desk) (refused (seen filters c.args.parent.now.device)));
+      reply = λ filters.
+          handed-on c.from_residual.result c.in_err-slot.field-0.0 c.from_residual.ensures.0 c.from_residual.ensures.1
+          ∙ sym (ap (λ (t : DeskTurn). t.reply) (refused (seen filters c.args.parent.now.device)));
+    }

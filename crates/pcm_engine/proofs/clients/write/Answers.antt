@@ -1,12 +1,14 @@
-use Rattle.std.proofs.Common.{rules, ◌≡◌, ◌+◌, ◌<◌, length, get_or, refl, sym, ap, ◌∙◌, subst, arith}
+use Rattle.std.proofs.Common.{◌≡◌, ◌+◌, ◌<◌, Option, length, get_or, refl, sym, ap, ◌∙◌, subst, arith}
 use Rattle.std.proofs.lemmas.Result.{on_err_weaker}
 use Rattle.pcm_fixed.proofs.Items.{item-kept, items-count}
+use Rattle.pcm_oss.specs.declared.event.Event.TheVariants.{Write}
 use Rattle.pcm_oss.specs.declared.event.Way.TheVariants.{Play}
-use Rattle.pcm_oss.specs.declared.reply.Errno.TheVariants.{Inval}
+use Rattle.pcm_wave.specs.declared.pool.Source.TheVariants.{Inline}
+use Rattle.pcm_desk.specs.declared.device.Held.{Held}
 use Rattle.pcm_desk.specs.declared.here.Here.{Here}
 use Rattle.pcm_desk.specs.Device.{DeviceSeen, seen}
 use Rattle.pcm_desk.specs.PlayBooks.{write_turn}
-use Rattle.pcm_desk.specs.Desk.{DeskTurn, desk_here, held_by, play_turn, refusing, write_on}
+use Rattle.pcm_desk.specs.Desk.{DeskTurn, channel_turn, desk_here, held_by, refusing}
 use Rattle.pcm_desk.proofs.Silent.{write-silent}
 use Rattle.pcm_play.specs.declared.channel.PlayChannelOf.{PlayChannelOf}
 use Rattle.pcm_play.specs.Channels.{PlayMoves}
@@ -15,7 +17,8 @@ use Rattle.pcm_vchan.proofs.Channels.{each_set, own_set, parent_same}
 use Rattle.pcm_vchan.specs.Parents.{play_channels}
 use Rattle.pcm_oss.specs.Replies.{bytes_due}
 use Rattle.pcm_engine.specs.Desks.{desk_with}
-use Rattle.pcm_engine.proofs.Turning.{desk-played, play-there, reply-played, turning-held, channel_of, slot-is}
+use Rattle.pcm_engine.proofs.Turning.{desk-played, play-there, reply-played, channel_of, slot-is, write-refused}
+use Rattle.pcm_engine.proofs.Grouping.{handed-on}
 use Rattle.pcm_engine.proofs.clients.write.Goals as goal
 
 pub returns-in_err-slot-clause-channels : goal.returns-in_err-slot-clause-channels
@@ -66,20 +69,17 @@ returns-clause-turn g c =
     let held = channel_of Play c.in_ok-slot.slot in
     let e = slot-is Play (held_by desk c.args.fd) c.in_ok-slot.slot (sym c.slot_of.ensures ∙ c.in_ok-slot.was) in
     let there = play-there parent c.args.descriptors.now c.args.fd held c.requires.apart e refl in
-    let turned : (device : DeviceSeen) → DeskTurn = λ device. write_on device (held_by desk c.args.fd) desk count in
-    let held_there : (device : DeviceSeen) → turned device ≡ play_turn device (write_turn (desk_here device desk) count) desk held.slot =
-    λ device. turning-held Play (play_turn device (write_turn (desk_here device desk) count) desk) (λ slot. refusing desk Inval) (λ slot. refusing desk Inval) (held_by desk c.args.fd) held desk e refl in
     record {
       desk = λ filters at.
           let device = seen filters parent.device in
           desk-played device (write_turn (desk_here device desk) count) parent c.args.descriptors.now held.slot c.play.result.now c.write.new.self there c.play.ensures.value
           (c.write.ensures.book ∙ ap (λ (here : Here). (write_turn here count c.play.result.now.book).book) at)
-          ∙ sym (ap (λ (t : DeskTurn). t.desk) (held_there device));
+          ∙ sym (ap (λ (found : Option Held). (channel_turn device desk (Write c.args.fd Inline 0 count) found).desk) e);
       reply = λ filters at.
           let device = seen filters parent.device in
           reply-played device (write_turn (desk_here device desk) count) parent c.args.descriptors.now held.slot c.play.result.now c.write.result there c.play.ensures.value
           (c.write.ensures.reply ∙ ap (λ (here : Here). (write_turn here count c.play.result.now.book).reply) at)
-          ∙ sym (ap (λ (t : DeskTurn). t.reply) (held_there device));
+          ∙ sym (ap (λ (found : Option Held). (channel_turn device desk (Write c.args.fd Inline 0 count) found).reply) e);
     }
 
 pub returns-clause-channels : goal.returns-clause-channels
@@ -92,4 +92,13 @@ returns-clause-channels g c = λ filters.
     (moves-nothing g.B.Feeder.kind g.B.Feeder.kept filters c.args.bytes.now 0)
 
 pub returns-in_err-slot-clause-turn : goal.returns-in_err-slot-clause-turn
-returns-in_err-slot-clause-turn g c = record { desk = λ filters at. search rules; reply = λ filters at. search rules }
+returns-in_err-slot-clause-turn g c =
+    let desk = desk_with c.args.parent.now c.args.descriptors.now in
+    let refused : (device : DeviceSeen) → channel_turn device desk (Write c.args.fd Inline 0 (length c.args.bytes.now)) (held_by desk c.args.fd) ≡ refusing desk c.in_err-slot.field-0.0 =
+    λ device. write-refused device desk c.args.fd Inline 0 (length c.args.bytes.now) (held_by desk c.args.fd) c.in_err-slot.field-0.0 (sym c.slot_of.ensures ∙ c.in_err-slot.was) in
+    record {
+      desk = λ filters at. sym (ap (λ (t : DeskTurn). t.desk) (refused (seen filters c.args.parent.now.device)));
+      reply = λ filters at.
+          handed-on c.from_residual.result c.in_err-slot.field-0.0 c.from_residual.ensures.0 c.from_residual.ensures.1
+          ∙ sym (ap (λ (t : DeskTurn). t.reply) (refused (seen filters c.args.parent.now.device)));
+    }

@@ -1,16 +1,23 @@
-use Rattle.std.proofs.Common.{rules, sym, ◌∙◌, subst}
-use Rattle.pcm_desk.specs.Desk.{held_by}
-use Rattle.pcm_desk.proofs.Apart.{regrouped}
+use Rattle.std.proofs.Common.{rules, sym, ap, ◌∙◌, subst}
+use Rattle.pcm_oss.specs.declared.event.Event.TheVariants.{Ioctl}
+use Rattle.pcm_desk.specs.Device.{seen}
+use Rattle.pcm_desk.specs.Desk.{DeskTurn, held_by}
 use Rattle.pcm_desk.specs.Own.{HoldApart}
+use Rattle.pcm_desk.proofs.Apart.{regrouped}
 use Rattle.pcm_engine.specs.declared.descriptors.Descriptors.{Descriptors}
-use Rattle.pcm_engine.specs.Desks.{desk_with, request_call}
+use Rattle.pcm_engine.specs.Desks.{channel_asked, desk_with, request_call}
 use Rattle.pcm_engine.proofs.Answering.{answers-nothing}
-use Rattle.pcm_engine.proofs.Turning.{held-few, holding-is}
+use Rattle.pcm_engine.proofs.Grouping.{handed-on, request-asks, request-refused}
+use Rattle.pcm_engine.proofs.Turning.{held-few, holding-is, holding-not}
 use Rattle.pcm_engine.proofs.grouped.ioctl.Goals as goal
 
 pub returns-in_err-held : goal.returns-in_err-held
 returns-in_err-held g c =
-    answers-nothing g.B.Feeder.kind g.B.Feeder.kept c.args.tables.now (request_call c.args.fd c.args.request) c.args.parent.now c.args.descriptors.now _ c.requires.able.served (search rules) (search rules) (search rules)
+    let device = seen c.args.tables.now c.args.parent.now.device in
+    let desk = desk_with c.args.parent.now c.args.descriptors.now in
+    let none = holding-not device desk (Ioctl c.args.fd c.args.request) (held_by desk c.args.fd) c.in_err-held.field-0.0 (sym c.holding.ensures ∙ c.in_err-held.was) in
+    answers-nothing g.B.Feeder.kind g.B.Feeder.kept c.args.tables.now (request_call c.args.fd c.args.request) c.args.parent.now c.args.descriptors.now _ c.requires.able.served (search rules)
+    (sym (ap (λ (t : DeskTurn). t.desk) none)) (handed-on c.from_residual.result c.in_err-held.field-0.0 c.from_residual.ensures.0 c.from_residual.ensures.1 ∙ sym (ap (λ (t : DeskTurn). t.reply) none))
 
 pub refusal-requires : goal.refusal-requires
 refusal-requires g c =
@@ -19,7 +26,13 @@ refusal-requires g c =
 
 pub returns-in-Some : goal.returns-in-Some
 returns-in-Some g c =
-    answers-nothing g.B.Feeder.kind g.B.Feeder.kept c.args.tables.now (request_call c.args.fd c.args.request) c.args.parent.now c.args.descriptors.now _ c.requires.able.served (search rules) (search rules) (search rules)
+    let device = seen c.args.tables.now c.args.parent.now.device in
+    let desk = desk_with c.args.parent.now c.args.descriptors.now in
+    let held = c.in_ok-held.held in
+    let e = holding-is (held_by desk c.args.fd) held (sym c.holding.ensures ∙ c.in_ok-held.was) in
+    let refused = request-refused device desk c.args.fd c.args.request (held_by desk c.args.fd) held c.in-Some.errno e (sym c.refusal.ensures ∙ c.in-Some.is) in
+    answers-nothing g.B.Feeder.kind g.B.Feeder.kept c.args.tables.now (request_call c.args.fd c.args.request) c.args.parent.now c.args.descriptors.now _ c.requires.able.served (search rules)
+    (sym (ap (λ (t : DeskTurn). t.desk) refused)) (sym (ap (λ (t : DeskTurn). t.reply) refused))
 
 pub leave_by-requires : goal.leave_by-requires
 leave_by-requires g c =
@@ -32,16 +45,23 @@ ask-requires-clause-apart g c =
     (regrouped (desk_with c.args.parent.now c.args.descriptors.now) _ c.requires.apart)
 
 pub returns : goal.returns
-returns g c = record {
-  silent = c.ask.ensures.silent;
-  own = c.ask.ensures.own;
-  recorders_own = c.ask.ensures.recorders_own;
-  maps_own = c.ask.ensures.maps_own;
-  output = c.ask.ensures.output;
-  refused = search rules;
-  desk = search rules;
-  reply = search rules;
-  channels = c.ask.ensures.channels;
-  recorders = c.ask.ensures.recorders;
-  maps = c.ask.ensures.maps;
-}
+returns g c =
+    let device = seen c.args.tables.now c.args.parent.now.device in
+    let desk = desk_with c.args.parent.now c.args.descriptors.now in
+    let held = c.in_ok-held.held in
+    let e = holding-is (held_by desk c.args.fd) held (sym c.holding.ensures ∙ c.in_ok-held.was) in
+    let asks = request-asks device desk c.args.fd c.args.request (held_by desk c.args.fd) held e (sym c.refusal.ensures ∙ c.in_default.is) in
+    let left = λ (d : Descriptors). channel_asked device (desk_with c.args.parent.now d) c.args.request (held_by (desk_with c.args.parent.now d) c.args.fd) in
+    record {
+      silent = c.ask.ensures.silent;
+      own = c.ask.ensures.own;
+      recorders_own = c.ask.ensures.recorders_own;
+      maps_own = c.ask.ensures.maps_own;
+      output = c.ask.ensures.output;
+      refused = search rules;
+      desk = c.ask.ensures.desk ∙ ap (λ (d : Descriptors). (left d).desk) c.leave_by.ensures ∙ ap (λ (t : DeskTurn). t.desk) asks;
+      reply = c.ask.ensures.reply ∙ ap (λ (d : Descriptors). (left d).reply) c.leave_by.ensures ∙ ap (λ (t : DeskTurn). t.reply) asks;
+      channels = c.ask.ensures.channels;
+      recorders = c.ask.ensures.recorders;
+      maps = c.ask.ensures.maps;
+    }

@@ -3,7 +3,8 @@ use Rattle.pcm_group.specs.declared.sync_groups.Groups.{Groups}
 use Rattle.pcm_group.specs.Groups.{all_in, change_in, dissolved, is_used}
 use Rattle.pcm_desk.specs.declared.here.Here.{Here}
 use Rattle.pcm_desk.specs.Device.{seen}
-use Rattle.pcm_desk.specs.Desk.{DeskTurn, held_by, play_starting, record_starting}
+use Rattle.pcm_desk.specs.Channels.{play_starting, record_starting}
+use Rattle.pcm_desk.specs.Desk.{DeskTurn, held_by}
 use Rattle.pcm_desk.specs.PlayBooks.{play_is_ready}
 use Rattle.pcm_fixed.specs.declared.fixed.Fixed.{Fixed}
 use Rattle.pcm_fixed.specs.Fixed.{fixed_items}

@@ -5,7 +5,8 @@ use Rattle.pcm_desk.specs.declared.here.Here.{Here}
 use Rattle.pcm_desk.specs.declared.play_book.PlayBook.{PlayBook}
 use Rattle.pcm_desk.specs.declared.turn.Turn.{Turn}
 use Rattle.pcm_desk.specs.Device.{mix_settings}
-use Rattle.pcm_desk.specs.Desk.{desk_here, play_at, play_rate_at}
+use Rattle.pcm_desk.specs.Channels.{play_rate_at}
+use Rattle.pcm_desk.specs.Desk.{desk_here, play_at}
 use Rattle.pcm_desk.specs.PlayRequests.{play_ask}
 use Rattle.pcm_engine.specs.Engines.{desk_of, device_of}
 use Rattle.pcm_status.proofs.replies.play_reply.Goals as goal

@@ -4,7 +4,7 @@ use Rattle.pcm_rate.proofs.Counts.{need_grows}
 use Rattle.pcm_desk.specs.declared.here.Here.{Here}
 use Rattle.pcm_desk.specs.declared.play_book.PlayBook.{PlayBook}
 use Rattle.pcm_desk.specs.Device.{mixed_for, parent_rate}
-use Rattle.pcm_desk.specs.Desk.{mixing, play_rate_at}
+use Rattle.pcm_desk.specs.Channels.{mixing, play_rate_at}
 use Rattle.pcm_desk.specs.PlayBooks.{play_settled}
 use Rattle.pcm_desk.specs.PlaySafe.{PlayIsSafe}
 use Rattle.pcm_desk.proofs.PlaySafe.{safe-settled}

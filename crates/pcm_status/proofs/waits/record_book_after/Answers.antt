@@ -5,7 +5,8 @@ use Rattle.pcm_feeder.specs.Limits.{IsRate}
 use Rattle.pcm_format.specs.Frames.{frame_bytes}
 use Rattle.pcm_bus.proofs.Channels.{some_channel}
 use Rattle.pcm_desk.specs.declared.record_book.RecordBook.{RecordBook}
-use Rattle.pcm_desk.specs.Desk.{record_at, record_rate_at}
+use Rattle.pcm_desk.specs.Channels.{record_rate_at}
+use Rattle.pcm_desk.specs.Desk.{record_at}
 use Rattle.pcm_desk.specs.RecordBooks.{captured, coming, keeping}
 use Rattle.pcm_desk.proofs.Ratios.{record-few}
 use Rattle.pcm_record.proofs.Capturing.{given-most, kept-most}

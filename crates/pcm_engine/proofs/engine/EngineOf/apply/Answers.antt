@@ -10,7 +10,7 @@ use Rattle.pcm_play.specs.declared.channel.PlayChannelOf.{PlayChannelOf}
 use Rattle.pcm_record.specs.declared.channel.RecordChannelOf.{RecordChannelOf}
 use Rattle.pcm_map.specs.declared.channel.MapChannelOf.{MapChannelOf}
 use Rattle.pcm_oss.specs.Replies.{Reply}
-use Rattle.pcm_desk.specs.Desk.{after, held_by, poke_on, write_on}
+use Rattle.pcm_desk.specs.Desk.{after, DeskTurn}
 use Rattle.pcm_desk.specs.Own.{HoldApart}
 use Rattle.pcm_desk.proofs.Apart.{apart-after}
 use Rattle.pcm_play.specs.Channels.{PlayMoves}
@@ -21,7 +21,7 @@ use Rattle.pcm_record.proofs.Moving as recorders
 use Rattle.pcm_bus.specs.Slots.{Each, MapAreOf, PlayAreOf}
 use Rattle.pcm_vchan.specs.Slots.{MapKeeps, RecordAreOf}
 use Rattle.pcm_vchan.specs.Starts.{EachAt}
-use Rattle.pcm_engine.specs.Desks.{desk_with}
+use Rattle.pcm_engine.specs.Desks.{desk_with, poke_call, write_call}
 use Rattle.pcm_engine.specs.Life.{KeepsPace}
 use Rattle.pcm_vchan.specs.declared.parent.ParentOf.{ParentOf}
 use Rattle.pcm_engine.specs.Engines.{samples_at_hand, device_of, desk_of, samples_most}
@@ -35,6 +35,7 @@ use Rattle.pcm_engine.proofs.Fitting.{counts-fit, mixed-few}
 use Rattle.pcm_engine.proofs.InOrder.{bytes-counted, can-be-asked, closable, few-mixed, here-seen, map-pace, play-pace, record-pace, relies, served}
 use Rattle.pcm_engine.proofs.Pace.{pace-after}
 use Rattle.pcm_engine.proofs.engine.EngineOf.apply.Goals as goal
+use Rattle.pcm_engine.proofs.Turning.{poke-counts, write-counts}
 
 pub invariant_of-self-in-Write : goal.invariant_of-self-in-Write
 invariant_of-self-in-Write g c =
@@ -100,7 +101,7 @@ invariant_of-self-in-StartGroup g c =
       answered_size = old.answered_size;
     }
 
--- what an interrupt relies on holds of every channel, since few frames were handed over
+-- what an interrupt relies on holds of every channel, since the device has been given few frames
 pub interrupt-requires-clause-due : goal.interrupt-requires-clause-due
 interrupt-requires-clause-due g c =
     let old = c.args.self.now in
@@ -202,12 +203,16 @@ returns-in-Intr-clause-desk g c =
 pub returns-in-Write-clause-desk : goal.returns-in-Write-clause-desk
 returns-in-Write-clause-desk g c =
     let old = c.args.self.now in
-    c.write.ensures.turn.desk old.tables (c.here-here.ensures ∙ here-seen g.B.Feeder.kept old c.requires.ready.bus) ∙ ap (λ (n : ℕ). (write_on (device_of old) (held_by (desk_of old) c.in-Write.fd) (desk_of old) n).desk) (rw c.in-Write.is at c.requires.bytes) ∙ sym (ap (λ (event : Event). (after (device_of old) (desk_of old) event).desk) c.in-Write.is)
+    c.write.ensures.turn.desk old.tables (c.here-here.ensures ∙ here-seen g.B.Feeder.kept old c.requires.ready.bus) ∙ ap (λ (n : ℕ). (write_call c.in-Write.fd n (device_of old) (desk_of old)).desk) (rw c.in-Write.is at c.requires.bytes)
+    ∙ ap (λ (t : DeskTurn). t.desk) (write-counts (device_of old) (desk_of old) c.in-Write.fd c.in-Write.source c.in-Write.at c.in-Write.len)
+    ∙ sym (ap (λ (event : Event). (after (device_of old) (desk_of old) event).desk) c.in-Write.is)
 
 pub returns-in-Write-clause-reply : goal.returns-in-Write-clause-reply
 returns-in-Write-clause-reply g c =
     let old = c.args.self.now in
-    ap (λ (r : Reply). r.result) c.tell-in-Write.ensures.kept ∙ c.write.ensures.turn.reply old.tables (c.here-here.ensures ∙ here-seen g.B.Feeder.kept old c.requires.ready.bus) ∙ ap (λ (n : ℕ). (write_on (device_of old) (held_by (desk_of old) c.in-Write.fd) (desk_of old) n).reply) (rw c.in-Write.is at c.requires.bytes) ∙ sym (ap (λ (event : Event). (after (device_of old) (desk_of old) event).reply) c.in-Write.is)
+    ap (λ (r : Reply). r.result) c.tell-in-Write.ensures.kept ∙ c.write.ensures.turn.reply old.tables (c.here-here.ensures ∙ here-seen g.B.Feeder.kept old c.requires.ready.bus) ∙ ap (λ (n : ℕ). (write_call c.in-Write.fd n (device_of old) (desk_of old)).reply) (rw c.in-Write.is at c.requires.bytes)
+    ∙ ap (λ (t : DeskTurn). t.reply) (write-counts (device_of old) (desk_of old) c.in-Write.fd c.in-Write.source c.in-Write.at c.in-Write.len)
+    ∙ sym (ap (λ (event : Event). (after (device_of old) (desk_of old) event).reply) c.in-Write.is)
 
 pub returns-in-Write-clause-recorders : goal.returns-in-Write-clause-recorders
 returns-in-Write-clause-recorders g c =
@@ -534,14 +539,16 @@ invariant_of-self-in-Poke g c =
 pub returns-in-Poke-clause-desk : goal.returns-in-Poke-clause-desk
 returns-in-Poke-clause-desk g c =
     let old = c.args.self.now in
-    c.poke.ensures.turn.desk old.tables ∙ ap (λ (n : ℕ). (poke_on (device_of old) (held_by (desk_of old) c.in-Poke.fd) (desk_of old) c.in-Poke.offset n).desk) (rw c.in-Poke.is at c.requires.bytes)
+    c.poke.ensures.turn.desk old.tables ∙ ap (λ (n : ℕ). (poke_call c.in-Poke.fd c.in-Poke.offset n (device_of old) (desk_of old)).desk) (rw c.in-Poke.is at c.requires.bytes)
+    ∙ ap (λ (t : DeskTurn). t.desk) (poke-counts (device_of old) (desk_of old) c.in-Poke.fd c.in-Poke.offset c.in-Poke.at c.in-Poke.len)
     ∙ sym (ap (λ (event : Event). (after (device_of old) (desk_of old) event).desk) c.in-Poke.is)
 
 pub returns-in-Poke-clause-reply : goal.returns-in-Poke-clause-reply
 returns-in-Poke-clause-reply g c =
     let old = c.args.self.now in
     ap (λ (r : Reply). r.result) c.tell-in-Poke.ensures.kept ∙ c.poke.ensures.turn.reply old.tables
-    ∙ ap (λ (n : ℕ). (poke_on (device_of old) (held_by (desk_of old) c.in-Poke.fd) (desk_of old) c.in-Poke.offset n).reply) (rw c.in-Poke.is at c.requires.bytes)
+    ∙ ap (λ (n : ℕ). (poke_call c.in-Poke.fd c.in-Poke.offset n (device_of old) (desk_of old)).reply) (rw c.in-Poke.is at c.requires.bytes)
+    ∙ ap (λ (t : DeskTurn). t.reply) (poke-counts (device_of old) (desk_of old) c.in-Poke.fd c.in-Poke.offset c.in-Poke.at c.in-Poke.len)
     ∙ sym (ap (λ (event : Event). (after (device_of old) (desk_of old) event).reply) c.in-Poke.is)
 
 pub returns-in-Poke-clause-channels : goal.returns-in-Poke-clause-channels

@@ -2,37 +2,44 @@ use Rattle.std.proofs.Common.{List, ℤ, length, ap, ◌∙◌}
 use Rattle.pcm_engine.proofs.Called.{loaded-called}
 use Rattle.pcm_engine.proofs.engine.EngineOf.step.Goals as goal
 
-pub returns-clause-stands : goal.returns-clause-stands
-returns-clause-stands g c = λ events s.
-    (c.answer.ensures.called c.args.pool.now c.args.event.now (loaded-called c.args.self.now c.args.pool.now c.args.event.now _ _ c.requires.fits c.requires.captures c.bytes_brought.ensures
-    (c.load_brought.ensures.length ∙ ap (λ (samples : List ℤ). length samples) c.deref_mut.ensures.value) c.load_brought.ensures.loaded)).stands events (record { playing = s.playing; recording = s.recording })
+pub returns-clause-told : goal.returns-clause-told
+returns-clause-told g c =
+    let step = c.answer.ensures.called c.args.pool.now c.args.event.now (loaded-called c.args.self.now c.args.pool.now c.args.event.now _ _ c.requires.fits c.requires.captures c.bytes_brought.ensures
+    (c.load_brought.ensures.length ∙ ap (λ (samples : List ℤ). length samples) c.deref_mut.ensures.value) c.load_brought.ensures.loaded) in
+    record {
+      stands = λ events s. step.stands events (record { playing = s.playing; recording = s.recording });
+      reply = λ events s. step.reply events (record { playing = s.playing; recording = s.recording });
+      bytes = λ events s. step.bytes events (record { playing = s.playing; recording = s.recording });
+      plain = λ events s unbroken. step.plain events (record { playing = s.playing; recording = s.recording }) unbroken;
+      mapped = λ events slot s. step.mapped events slot (record { playing = s.playing; recording = s.recording });
+      together = λ events fd group s is ok. step.together events fd group (record { playing = s.playing; recording = s.recording }) is ok;
+      areas = λ events s. step.areas events (record { playing = s.playing; recording = s.recording });
+    }
 
-pub returns-clause-reply : goal.returns-clause-reply
-returns-clause-reply g c = λ events s.
-    (c.answer.ensures.called c.args.pool.now c.args.event.now (loaded-called c.args.self.now c.args.pool.now c.args.event.now _ _ c.requires.fits c.requires.captures c.bytes_brought.ensures
-    (c.load_brought.ensures.length ∙ ap (λ (samples : List ℤ). length samples) c.deref_mut.ensures.value) c.load_brought.ensures.loaded)).reply events (record { playing = s.playing; recording = s.recording })
-
-pub returns-clause-bytes : goal.returns-clause-bytes
-returns-clause-bytes g c = λ events s.
-    (c.answer.ensures.called c.args.pool.now c.args.event.now (loaded-called c.args.self.now c.args.pool.now c.args.event.now _ _ c.requires.fits c.requires.captures c.bytes_brought.ensures
-    (c.load_brought.ensures.length ∙ ap (λ (samples : List ℤ). length samples) c.deref_mut.ensures.value) c.load_brought.ensures.loaded)).bytes events (record { playing = s.playing; recording = s.recording })
-
-pub returns-clause-plain : goal.returns-clause-plain
-returns-clause-plain g c = λ events s unbroken.
-    (c.answer.ensures.called c.args.pool.now c.args.event.now (loaded-called c.args.self.now c.args.pool.now c.args.event.now _ _ c.requires.fits c.requires.captures c.bytes_brought.ensures
-    (c.load_brought.ensures.length ∙ ap (λ (samples : List ℤ). length samples) c.deref_mut.ensures.value) c.load_brought.ensures.loaded)).plain events (record { playing = s.playing; recording = s.recording }) unbroken
-
-pub returns-clause-mapped : goal.returns-clause-mapped
-returns-clause-mapped g c = λ events slot s.
-    (c.answer.ensures.called c.args.pool.now c.args.event.now (loaded-called c.args.self.now c.args.pool.now c.args.event.now _ _ c.requires.fits c.requires.captures c.bytes_brought.ensures
-    (c.load_brought.ensures.length ∙ ap (λ (samples : List ℤ). length samples) c.deref_mut.ensures.value) c.load_brought.ensures.loaded)).mapped events slot (record { playing = s.playing; recording = s.recording })
-
-pub returns-clause-together : goal.returns-clause-together
-returns-clause-together g c = λ events fd group s is ok.
-    (c.answer.ensures.called c.args.pool.now c.args.event.now (loaded-called c.args.self.now c.args.pool.now c.args.event.now _ _ c.requires.fits c.requires.captures c.bytes_brought.ensures
-    (c.load_brought.ensures.length ∙ ap (λ (samples : List ℤ). length samples) c.deref_mut.ensures.value) c.load_brought.ensures.loaded)).together events fd group (record { playing = s.playing; recording = s.recording }) is ok
-
-pub returns-clause-areas : goal.returns-clause-areas
-returns-clause-areas g c = λ events s.
-    (c.answer.ensures.called c.args.pool.now c.args.event.now (loaded-called c.args.self.now c.args.pool.now c.args.event.now _ _ c.requires.fits c.requires.captures c.bytes_brought.ensures
-    (c.load_brought.ensures.length ∙ ap (λ (samples : List ℤ). length samples) c.deref_mut.ensures.value) c.load_brought.ensures.loaded)).areas events (record { playing = s.playing; recording = s.recording })
+-- the samples at hand are no matter to it
+pub returns-clause-stepped : goal.returns-clause-stepped
+returns-clause-stepped g c =
+    let stepped = c.answer.ensures.stepped in
+    let rules = stepped.rules in
+    record {
+      rules = record {
+        device = rules.device;
+        handed = rules.handed;
+        desk = rules.desk;
+        result = rules.result;
+        refused = λ err. (let same = rules.refused err in record { parent_same = same.parent_same; descriptors_same = same.descriptors_same });
+        isolated = rules.isolated;
+        read = rules.read;
+        taken = rules.taken;
+      };
+      ready = stepped.ready;
+      safe = stepped.safe;
+      records_safe = stepped.records_safe;
+      maps_safe = stepped.maps_safe;
+      places = stepped.places;
+      rings = stepped.rings;
+      apart = stepped.apart;
+      members = stepped.members;
+      count = stepped.count;
+      rest = stepped.rest;
+    }

@@ -20,23 +20,26 @@ returns-clause-called g c = λ pool named called.
 pub returns-clause-stepped : goal.returns-clause-stepped
 returns-clause-stepped g c =
     let stepped = c.answer.ensures.stepped in
+    let rules = stepped.rules in
     record {
-      device = stepped.device;
-      handed = stepped.handed;
+      rules = record {
+        device = rules.device;
+        handed = rules.handed;
+        desk = rules.desk;
+        result = rules.result;
+        refused = λ err. (let same = rules.refused err in record { parent_same = same.parent_same; descriptors_same = same.descriptors_same });
+        isolated = rules.isolated;
+        read = rules.read;
+        taken = rules.taken;
+      };
       ready = stepped.ready;
-      desk = stepped.desk;
-      result = stepped.result;
       safe = stepped.safe;
       records_safe = stepped.records_safe;
       maps_safe = stepped.maps_safe;
       places = stepped.places;
       rings = stepped.rings;
-      refused = λ err. (let same = stepped.refused err in record { parent_same = same.parent_same; descriptors_same = same.descriptors_same });
       apart = stepped.apart;
       members = stepped.members;
-      isolated = stepped.isolated;
-      read = stepped.read;
-      taken = stepped.taken;
       count = stepped.count;
       rest = stepped.rest;
     }

@@ -19,16 +19,17 @@ returns-clause-played g c =
     let xs = c.args.events.now in
     let pool = c.args.pool.now in
     let events = take c.args.at xs in
-    let step = c.step-bytes.ensures in
+    let stepped = c.step-bytes.ensures.stepped in
+    let told = c.step-bytes.ensures.told in
     let piece = take c.step-bytes.result c.step-bytes.new.out in
     played g.B.Feeder.kind g.B.Feeder.kept c.args.self.now _ pool xs c.args.at _ piece c.step-bytes.new.reply c.requires.there
     (record {
-      device = step.device;
-      ready = step.ready;
-      stands = step.stands events;
-      handed = step.handed;
-      bytes = step.bytes events;
-      replied = step.reply events;
+      device = stepped.rules.device;
+      ready = stepped.ready;
+      stands = told.stands events;
+      handed = stepped.rules.handed;
+      bytes = told.bytes events;
+      replied = told.reply events;
       room = refl;
       line_room = refl;
     })
@@ -41,18 +42,19 @@ returns-clause-next g c =
     let xs = c.args.events.now in
     let pool = c.args.pool.now in
     let events = take c.args.at xs in
-    let step = c.step-bytes.ensures in
+    let stepped = c.step-bytes.ensures.stepped in
+    let told = c.step-bytes.ensures.told in
     let count = c.step-bytes.result in
     let size = c.write_line-line.result in
     let piece = take count c.step-bytes.new.out in
     next-given g.B.Feeder.kind g.B.Feeder.kept replay (record replay { engine = c.step-bytes.new.self }) pool xs c.args.at _ piece _ _ c.step-bytes.new.reply c.requires.there
     (record {
-      device = step.device;
-      ready = step.ready;
-      stands = step.stands events;
-      handed = step.handed;
-      bytes = step.bytes events;
-      replied = step.reply events;
+      device = stepped.rules.device;
+      ready = stepped.ready;
+      stands = told.stands events;
+      handed = stepped.rules.handed;
+      bytes = told.bytes events;
+      replied = told.reply events;
       room = refl;
       line_room = refl;
     })
@@ -62,4 +64,4 @@ returns-clause-next g c =
 
 pub returns-clause-bytes : goal.returns-clause-bytes
 returns-clause-bytes g c =
-    handed-among (device_of c.args.self.now.engine) c.args.events.now c.args.at _ _ _ c.requires.there c.step-bytes.ensures.count c.requires.played.room
+    handed-among (device_of c.args.self.now.engine) c.args.events.now c.args.at _ _ _ c.requires.there c.step-bytes.ensures.stepped.count c.requires.played.room

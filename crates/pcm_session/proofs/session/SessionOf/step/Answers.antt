@@ -22,3 +22,6 @@ pub step_with-count-requires-clause-bytes : goal.step_with-count-requires-clause
 step_with-count-requires-clause-bytes g c =
     let engine = c.args.self.now.engine in
     (can-take (device_of engine) engine.parent.handed c.args.event.now (length c.args.bytes.now) (length c.args.samples.now) (length c.args.out.now) (sym c.if-not-takes.ensures)).bytes_are
+
+pub returns-clause-step : goal.returns-clause-step
+returns-clause-step g c = record { rules = c.step_with-count.ensures.stepped.rules; called = c.step_with-count.ensures.called }

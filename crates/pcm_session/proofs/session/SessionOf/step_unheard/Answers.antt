@@ -16,7 +16,7 @@ step_with-count-requires-clause-samples g c =
     let engine = c.args.self.now.engine in
     (can-take (device_of engine) engine.parent.handed c.args.event.now (length c.args.bytes.now) (length c.args.samples.now) c.unheard_room.result (sym c.if-not-takes.ensures)).samples_fit
 
--- what is handed over has room where nobody hears it
+-- the bytes for the device have room where nobody hears them
 pub step_with-count-requires-clause-room : goal.step_with-count-requires-clause-room
 step_with-count-requires-clause-room g c =
     let session = c.args.self.now in
@@ -34,20 +34,9 @@ pub returns-clause-step : goal.returns-clause-step
 returns-clause-step g c =
     let session = c.args.self.now in
     let step = c.step_with-count in
-    let stepped = step.ensures.stepped in
     let out = step.new.out in
     let long : length out ≡ fixed_len session.unheard = step.auto.out ∙ c.deref_mut.ensures.len in
     let there : take (fixed_len session.unheard) (out ++ drop (length out) (fixed_items session.unheard)) ≡ out =
     take-append-le (fixed_len session.unheard) out (drop (length out) (fixed_items session.unheard)) (omega (arith, long)) ∙ take_all (fixed_len session.unheard) out (omega (arith, long)) in
     subst (λ (bytes : List ℕ). IsCallStep g.B.Feeder.kept c.args.event.now c.args.bytes.now c.args.samples.now session.engine step.new.self step.new.reply (take step.result bytes)) (sym there)
-    (record {
-      device_same = stepped.device;
-      counts = stepped.handed;
-      desk = stepped.desk;
-      result = stepped.result;
-      refused = stepped.refused;
-      isolated = stepped.isolated;
-      read = stepped.read;
-      taken = stepped.taken;
-      called = step.ensures.called;
-    })
+    (record { rules = step.ensures.stepped.rules; called = step.ensures.called })

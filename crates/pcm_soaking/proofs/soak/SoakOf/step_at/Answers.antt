@@ -15,12 +15,13 @@ returns g c =
     let pool = c.args.pool.now in
     let xs = c.args.events.now in
     let events = take c.args.at xs in
-    let step = c.step-count.ensures in
+    let stepped = c.step-count.ensures.stepped in
+    let told = c.step-count.ensures.told in
     let piece = take c.step-count.result c.step-count.new.out in
     let block : c.deref.result.now ≡ c.step-count.new.out =
     c.deref.ensures.value ∙ front _ c.step-count.new.out _ (c.step-count.auto.out ∙ c.deref_mut.ensures.len) in
     let is : device_of soak.engine ≡ usual_device = c.requires.soaked.engine.device_is in
-    let count : c.step-count.result ≤ ring_room usual_device = handed-on (device_of soak.engine) pool xs c.args.at c.step-count.result _ is c.requires.events.fits c.requires.there step.count in
+    let count : c.step-count.result ≤ ring_room usual_device = handed-on (device_of soak.engine) pool xs c.args.at c.step-count.result _ is c.requires.events.fits c.requires.there stepped.count in
     let room : length c.step-count.new.out ≡ ring_room usual_device = c.step-count.auto.out ∙ c.deref_mut.ensures.len ∙ c.requires.soaked.room in
     let size : length piece ≡ c.step-count.result = length-take-le c.step-count.result c.step-count.new.out (omega (arith, count, room)) in
     let heard : total (take c.step-count.result c.deref.result.now) ≡ total piece = ap (λ (bytes : List ℕ). total (take c.step-count.result bytes)) block in
@@ -29,12 +30,12 @@ returns g c =
       soaked = subst (HasSoaked g.B.Feeder.kind g.B.Feeder.kept _ pool) (sym (take_more xs c.args.at _ c.requires.there))
           (soaked g.B.Feeder.kind g.B.Feeder.kept soak _ pool events _ piece c.step-count.new.reply c.count.new.self
           (record {
-            device = step.device;
-            ready = step.ready;
-            stands = step.stands events;
-            handed = step.handed;
-            bytes = step.bytes events;
-            replied = step.reply events;
+            device = stepped.rules.device;
+            ready = stepped.ready;
+            stands = told.stands events;
+            handed = stepped.rules.handed;
+            bytes = told.bytes events;
+            replied = told.reply events;
             counts = c.count.ensures.counted;
             within = c.count.ensures.within;
             heard = c.hear.ensures.heard ∙ ap (λ (sum : ℕ). record c.count.new.self { sum = c.count.new.self.sum + sum }) heard;
@@ -51,11 +52,12 @@ slice_bounds-hear-end g c =
     let soak = c.args.self.now in
     let pool = c.args.pool.now in
     let xs = c.args.events.now in
-    let step = c.step-count.ensures in
+    let stepped = c.step-count.ensures.stepped in
+    let told = c.step-count.ensures.told in
     let block : c.deref.result.now ≡ c.step-count.new.out =
     c.deref.ensures.value ∙ front _ c.step-count.new.out _ (c.step-count.auto.out ∙ c.deref_mut.ensures.len) in
     let is : device_of soak.engine ≡ usual_device = c.requires.soaked.engine.device_is in
-    let count : c.step-count.result ≤ ring_room usual_device = handed-on (device_of soak.engine) pool xs c.args.at c.step-count.result _ is c.requires.events.fits c.requires.there step.count in
+    let count : c.step-count.result ≤ ring_room usual_device = handed-on (device_of soak.engine) pool xs c.args.at c.step-count.result _ is c.requires.events.fits c.requires.there stepped.count in
     let room : length c.step-count.new.out ≡ ring_room usual_device = c.step-count.auto.out ∙ c.deref_mut.ensures.len ∙ c.requires.soaked.room in
     let size : length (take c.step-count.result c.step-count.new.out) ≡ c.step-count.result = length-take-le c.step-count.result c.step-count.new.out (omega (arith, count, room)) in
     sym (ap (λ (bytes : List ℕ). length (take c.step-count.result bytes)) block ∙ size)

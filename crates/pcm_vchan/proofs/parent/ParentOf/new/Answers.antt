@@ -14,7 +14,7 @@ use Rattle.pcm_vchan.specs.Racks.{map_marks, play_marks, record_marks}
 use Rattle.pcm_vchan.proofs.Racks.{drop_length, part-of-first}
 use Rattle.pcm_vchan.proofs.parent.ParentOf.new.Goals as goal
 
--- what holds of all elements holds of those before some, and of those behind
+-- what holds of all elements holds of those before some, and of those after
 before : {X : Type 0} (P : X → Type 0) (xs ys : List X) → All P (xs ++ ys) → All P xs
 before P [] ys all = All-nil P
 before P (x ∷ xs) ys all = All-cons P x xs (All-head P x (xs ++ ys) all) (before P xs ys (All-tail P x (xs ++ ys) all))
