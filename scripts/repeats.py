@@ -6,6 +6,7 @@
 - the first line of each commit, from the one on that added this file, is as scripts/commit-message has it
 """
 import collections
+import functools
 import itertools
 import re
 import subprocess
@@ -43,12 +44,11 @@ def signatures(code):
         yield found.group(1), code[found.start() : stop.start() if stop else len(code)].strip(), clauses
 
 
+@functools.lru_cache(maxsize=None)
 def functions():
     """Each function of all crates, by its place."""
-    for file in sources():
-        if file.suffix == ".rt":
-            for name, text, clauses in signatures(code_of(file)):
-                yield f"{file.relative_to(ROOT)}: {name}", text, clauses
+    files = [file for file in sources() if file.suffix == ".rt"]
+    return [(f"{file.relative_to(ROOT)}: {name}", *found) for file in files for name, *found in signatures(code_of(file))]
 
 
 def same_contracts(each):
@@ -62,13 +62,17 @@ def same_contracts(each):
 
 
 def long_signatures(each):
-    """The signatures that are too long, and the longest where it is shorter than it may be."""
-    lengths = [(len(text.splitlines()), place) for place, text, _ in each]
-    for lines, place in lengths:
+    """The signatures that are too long."""
+    for place, text, _ in each:
+        lines = len(text.splitlines())
         if lines > LINES:
             yield f"{place}: a signature of {lines} lines, and scripts/repeats.py has {LINES}"
-    if max(lengths)[0] < LINES:
-        yield "scripts/repeats.py: the longest signature has {} lines, {}: write that".format(*max(lengths))
+
+
+def longest_signature():
+    """What is said of the longest signature, so that the number goes down with it."""
+    place, text, _ = max(functions(), key=lambda it: len(it[1].splitlines()))
+    return f"the longest signature has {len(text.splitlines())} lines of {LINES}: {place}"
 
 
 def lines_read(code):
@@ -166,5 +170,5 @@ def failed_trials():
 
 def repeats():
     """What is wrong, by each check of this file and by its own trials."""
-    each = list(functions())
-    return [*failed_trials(), *same_contracts(each), *long_signatures(each), *repeated_runs(), *wrong_subjects(subjects())]
+    codes = (*same_contracts(functions()), *long_signatures(functions()), *repeated_runs())
+    return [*failed_trials(), *codes, *wrong_subjects(subjects())]
