@@ -20,8 +20,8 @@
  *   dsp_engine_space, dsp_engine_position,     room, position, delay and shortages of a channel
  *   dsp_engine_delay, dsp_engine_errors
  *   dsp_engine_slot, dsp_engine_is_idle        who has a slot, and whether any is taken
- *   dsp_engine_is_ready, dsp_engine_ready      who needn't wait
- *   dsp_engine_frames_until                    and how long who does
+ *   dsp_engine_is_ready, dsp_engine_ready      which descriptors are ready
+ *   dsp_engine_frames_until                    and after how many frames one will be
  *   dsp_engine_error, dsp_engine_errno         what an answer means
  *   dsp_engine_request_name                    the name of a request
  *   dsp_engine_version                         the library's version
