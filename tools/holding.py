@@ -139,7 +139,7 @@ def environment(client, path, pace):
 
 
 def status_of(words, env, printed):
-    """Runs a program to its end. Ctrl-C comes to it from the terminal, and what else ends this tool is passed on to it; after it both end
+    """Runs a program to its end. Ctrl-C reaches it from the terminal, and what else ends this tool is passed on to it; after it both end
     this tool again."""
     before = {it: signal.getsignal(it) for it in (signal.SIGINT, signal.SIGTERM, signal.SIGHUP)}
     with subprocess.Popen(words, env=env, stdout=printed) as program:

@@ -1,6 +1,6 @@
 // SPDX-License-Identifier: MIT OR GPL-2.0-only
 /*
- * A card without a clock, for ALSA: its time moves on where it is told to and nowhere else, so an interrupt is N frames exactly.
+ * A card without a clock, for ALSA: its time moves on by what `step` gets and not otherwise, so an interrupt is N frames exactly.
  *
  * What plays is added in the order of the substreams, with a limit after each, and kept. Recordings hear the frames that were given for
  * them, and silence after these. Four files of /proc/clockless are the other side of the card:
