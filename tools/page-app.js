@@ -156,7 +156,7 @@ class App {
     this.stage.redraw();
   }
 
-  /** Goes to the next place where something happens, or to the one before, and tells all that does there. */
+  /** Goes to the next place where something happens, or to the one before, and says all that happens there. */
   event(way) {
     const at = Math.round(this.cursor), found = way > 0 ? this.page.happens.find((it) => it[0] > at) : this.page.happens.findLast((it) => it[0] < at);
     if (!found) return this.tell(way > 0 ? "Nothing more happens." : "Nothing happens before.");
@@ -172,7 +172,7 @@ class App {
     byId("drawn").focus({ preventScroll: true });
   }
 
-  /** Tells why a frame is what it is: of the device that which is handed over there, of slots and the mix that which is mixed there. */
+  /** Says why a frame is what it is: of the device the one that is handed over there, of slots and the mix the one that is mixed there. */
   why(place) {
     const { kind, name } = this.page.rows[this.chosen], isMixed = kind === "slot" || kind === "mix", at = Math.floor(place);
     const frame = Math.min(Math.max(at + (isMixed ? this.page.ring : 0), 0), Math.max(this.page.frames - 1, 0));

@@ -37,7 +37,7 @@ class Axis {
     this.show(this.begin + frames, this.end + frames);
   }
 
-  /** Shows so many times as many frames, and leaves what is at a place there. */
+  /** Shows `times` times as many frames, and leaves what is at a place there. */
   scale(times, x) {
     const at = this.frameAt(x), seen = Math.min(Math.max(this.seen() * times, LEAST_SEEN), Math.max(this.frames, LEAST_SEEN));
     this.show(at - x * seen / this.width, at - x * seen / this.width + seen);
@@ -49,7 +49,7 @@ class Axis {
     if (frame < this.begin || frame > this.end) this.show(frame - seen / 4, frame - seen / 4 + seen);
   }
 
-  /** How far apart round numbers stand of which one is so many frames; of seconds those of a minute count. */
+  /** How far apart round numbers stand, in units of `unit` frames; of seconds those of a minute count. */
   step(unit) {
     const least = APART * this.seen() / this.width / unit;
     if (unit > 1 && least > 10) return [15, 30, 60, 120, 300, 600, 1200, 3600].find((it) => it >= least) || 3600 * Math.ceil(least / 3600);

@@ -64,7 +64,7 @@ class Limits {
     return found >= 0 && frame < this.ends[found] ? found : -1;
   }
 
-  /** The bars among frames, those that touch at so many frames as one: each by where it begins and ends. */
+  /** The bars among frames, those less than `near` frames apart as one: each by where it begins and ends. */
   * among(begin, end, near) {
     for (let at = Math.max(countUpTo(this.ends, begin), 0); at < this.count && this.begins[at] < end; at += 1) {
       const from = this.begins[at];

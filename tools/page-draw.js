@@ -133,7 +133,7 @@ class Painter {
     }
   }
 
-  /** Rows for so many columns. */
+  /** Rows for `count` columns. */
   rows(count) {
     if (this.found && this.found.lows.length >= count) return this.found;
     this.found = { lows: new Float64Array(count), highs: new Float64Array(count), known: new Uint8Array(count) };

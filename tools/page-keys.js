@@ -58,7 +58,7 @@ function listenToWheel(app) {
   }, { passive: false });
 }
 
-/** A press on the lanes sets the cursor and tells why; a drag selects; two fingers pinch. */
+/** A press on the lanes sets the cursor and says why; a drag selects; two fingers pinch. */
 function listenToPointer(app) {
   const box = byId("drawn"), held = new Map();
   const place = (event) => event.clientX - byId("waves").getBoundingClientRect().left;

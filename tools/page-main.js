@@ -1,4 +1,4 @@
-/** The page as a whole: what is told is read, and the parts are joined. */
+/** The page as a whole: its data are read, and the parts are joined. */
 
 /** All that happens, by its frame: what bars and marks say, and clicks. */
 function happensOf(page) {
@@ -13,7 +13,7 @@ function happensOf(page) {
   return found.sort((a, b) => a[0] - b[0]);
 }
 
-/** Reads what is told, and all but the whole frames. */
+/** Reads the data of the page, all but the whole frames. */
 async function readPage() {
   const page = JSON.parse(textOf(await unpacked(byId("told").textContent)));
   page.script = await scriptOf(page.script);

@@ -87,7 +87,7 @@ function wholeLanes(track, begin, end) {
   return lanes;
 }
 
-/** Up to so many channels have their own place, which browsers know for 1, 2, 4 and 6; of eight the sides join the back. */
+/** Up to six channels have their own place, which browsers know for 1, 2, 4 and 6; of eight the sides join the back. */
 function bufferOf(context, lanes, rate, channels) {
   const count = lanes.length > 6 ? 6 : lanes.length, length = Math.max(lanes[0].length, 1);
   let times = 1;
@@ -97,7 +97,7 @@ function bufferOf(context, lanes, rate, channels) {
   return buffer;
 }
 
-/** Puts a lane into a channel, each sample so many times, with another one where one joins it. */
+/** Puts a lane into a channel, each sample `times` times, with another lane where one joins it. */
 function fillChannel(into, lane, more, times) {
   if (times === 1 && !more) {
     into.set(lane.subarray(0, into.length));

@@ -11,7 +11,7 @@ const LISTENED = Float32Array.from({ length: 256 }, (_, code) => {
   return Math.sign(value) * (Math.exp(Math.abs(value) / 127 * LEVEL) - 1) / 255;
 });
 
-// so many whole samples have their least and their greatest kept, where many are looked at
+// of this many whole samples the least and the greatest are kept, where many are looked at
 const FEW = 32;
 
 /** Puts the least and the greatest of some numbers into two places, with what stands there. */
@@ -33,7 +33,7 @@ class Lane {
     this.bounds = null;
   }
 
-  /** Looks up the least and the greatest of every few samples, one behind the other. */
+  /** Looks up the least and the greatest of every FEW samples, one after the other. */
   measure() {
     const { samples } = this, count = Math.floor(samples.length / FEW), into = new Float64Array(2);
     this.bounds = new samples.constructor(2 * count);
@@ -148,7 +148,7 @@ class Track {
     return ROUGH;
   }
 
-  /** The level whose blocks are as large as so many frames, or smaller. */
+  /** The level whose blocks have that many frames, or fewer. */
   levelFor(frames) {
     let level = 0;
     while (level + 1 < this.sizes.length && this.sizes[level + 1] <= frames) level += 1;
@@ -188,7 +188,7 @@ class Source {
     this.along = told.along;
   }
 
-  /** Reads where its frames stand: rows of the first frame and the one behind the last on the axis, and the same of the sound. */
+  /** Reads where its frames stand: rows of the first frame and the one after the last on the axis, and the same of the sound. */
   async read() {
     if (this.along === null) return;
     const rows = new Int32Array(await blob(this.along));
@@ -230,7 +230,7 @@ class Source {
     return frames ? this.track.extremes(frames[0], frames[1], channel, into) : NOTHING;
   }
 
-  /** The frames of the sound at some of the axis, from the first to the one behind the last, or null. */
+  /** The frames of the sound at some of the axis, from the first to the one after the last, or null. */
   frames(begin, end) {
     if (!this.begins) return [begin + this.offset, end + this.offset];
     const from = Math.max(countUpTo(this.begins, begin) - 1, 0), to = countBelow(this.begins, end) - 1;
