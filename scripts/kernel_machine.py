@@ -163,7 +163,7 @@ class Boot:
         words = [*QEMU, "-kernel", kernel.image(), "-initrd", folder / "initramfs.gz", "-append", f"{KERNEL_WORDS} card={card}",
                  "-serial", f"file:{folder / 'console'}", "-serial", f"file:{folder / 'results.tar.gz'}"]
         with open(folder / "qemu", "wb") as said:
-            # of its own session, so that Ctrl-C comes to this script first
+            # of its own session, so that Ctrl-C reaches this script first
             self.ran = subprocess.Popen(list(map(str, words)), stdin=subprocess.DEVNULL, stdout=said, stderr=said, start_new_session=True)
         (folder / "command").write_text(shlex.join(map(str, words)) + "\n")
 

@@ -4,7 +4,7 @@ import subprocess
 
 from trials_shared import DEVICE_FORMATS, LAYOUTS, ROOT, ask, called, device, equal, tool
 
-SCRIPT = """# what is answered stands behind each line
+SCRIPT = """# what is answered stands after each line
 
 open 0 play s16le 2 48000   # ok 0
 open 1 play u8 1 8000       # ok 1

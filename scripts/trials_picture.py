@@ -192,7 +192,7 @@ def try_own_limits(program, folder):
     script.write_text("\n".join(["open 0 play s16le 2 48000", f"write 0 {written}", "close 0", *["intr 8"] * 6]) + "\n")
     config.write_text("[device]\nhw_block = 4\nhw_blocks = 2\nrate = 24000\n[vchans]\nrate = 48000\n[[eq]]\nshift = 1\nb0 = 8\nb1 = 0\nb2 = 0\na1 = 0\na2 = 0\n")
     drawn = tool("picture", script, config, "--out", "-", "--program", program)[1]
-    equal("limits behind the device's frames", re.findall(r"limited by its own stages in frames (\d+ to \d+) of the mix", drawn), ["40 to 59"])
+    equal("limits after the device's frames", re.findall(r"limited by its own stages in frames (\d+ to \d+) of the mix", drawn), ["40 to 59"])
 
 
 TRIALS = (try_pictures, try_picture_devices, try_picture_events, try_windows, try_rings, try_kept_frames, try_long_pictures, try_own_limits)
