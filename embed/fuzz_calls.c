@@ -81,7 +81,7 @@ static void check_accepted(const struct run *run, const struct call *call) {
         must(number == (int64_t)call->numbers[FRAMES] * frame_bytes(device), run, call, "it hands over another number of bytes");
         break;
     case CALL_ASK:
-        must(number <= most_told(call->numbers[QUESTION]), run, call, "it is told a greater number than there is");
+        must(number <= most_told(call->numbers[QUESTION]), run, call, "it is answered a greater number than there is");
         break;
     default:
         must(number == 0, run, call, "it is answered a number");
@@ -115,8 +115,8 @@ static void check_room(const struct run *run, const struct call *call) {
     bool tells = got->number >= 0 && !call->is_null && call->kind == CALL_ASK;
     size_t told = tells ? report_size(call->numbers[QUESTION]) : 0;
     must(is_marked(got, call, fills ? (size_t)got->number : 0), run, call, "it wrote where it must not");
-    must(is_answer_marked(got) != (got->number >= 0 && is_answered(call)), run, call, "what is told beside its number isn't right");
-    must(is_report_marked(got, told) && (told == 0 || !is_report_marked(got, 0)), run, call, "it is told something else");
+    must(is_answer_marked(got) != (got->number >= 0 && is_answered(call)), run, call, "the answer beside its number isn't right");
+    must(is_report_marked(got, told) && (told == 0 || !is_report_marked(got, 0)), run, call, "its report isn't right");
 }
 
 /* A call that was accepted, with no more than was taken of it; one that was refused, as it is. */
@@ -146,10 +146,10 @@ static void check_second(struct run *run, const struct call *call) {
 
     make_call(run->second, run->setup, &taken, &run->brought, second);
     must(first->number == second->number, run, call, "the engines answer other numbers");
-    must(call->is_null || memcmp(&first->answer, &second->answer, sizeof first->answer) == 0, run, call, "the engines tell other numbers");
+    must(call->is_null || memcmp(&first->answer, &second->answer, sizeof first->answer) == 0, run, call, "the engines report other numbers");
     must(!fills || first->number < 0 || memcmp(first->out, second->out, (size_t)first->number) == 0, run, call, "the engines hand over other bytes");
     must(call->kind != CALL_ASK || first->number < 0 || is_report_alike(call->numbers[QUESTION], &first->report, &second->report), run, call,
-         "the engines tell other things");
+         "the engines give other reports");
 }
 
 /* Moves the first engine to its other place, as a program may. */
@@ -176,7 +176,8 @@ static void try_question(struct run *run, const struct call *call) {
         check_second(run, call);
     }
     if (call->seed % 4 == 2) {
-        must(is_told_otherwise(run->second, &run->setup->device, call, got->number, &got->report), run, call, "another question tells otherwise");
+        must(is_told_otherwise(run->second, &run->setup->device, call, got->number, &got->report), run, call,
+             "another question is answered otherwise");
     }
     run->asked = *call;
     run->asked_number = got->number;
@@ -189,9 +190,9 @@ static void check_peek(const struct run *run, const struct call *call) {
     if (call->kind != CALL_IOCTL || asked[FD] != numbers[FD] || asked[REQUEST] != numbers[REQUEST] || asked[ARGUMENT] != numbers[ARGUMENT]) {
         return;
     }
-    must(run->of_first.number == run->asked_number, run, call, "it was told another number before");
+    must(run->of_first.number == run->asked_number, run, call, "its question gave another number before");
     must(call->is_null || run->asked.is_null || memcmp(&run->of_first.answer, &run->asked_answer, sizeof run->asked_answer) == 0, run, call,
-         "it was told other numbers before");
+         "its question gave other numbers before");
 }
 
 /* After an interrupt a client can go on exactly where that has as many frames as the question of its wait answered. */

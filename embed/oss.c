@@ -230,7 +230,7 @@ static void ask_all(struct dsp_engine *engine, uint32_t fd, const char *name, co
         int number = rows[k].given;
         int answer = dsp_oss_ioctl(engine, fd, rows[k].request, &number, rows[k].flags);
         if (answer != rows[k].answer || number != rows[k].told) {
-            printf("%s, row %d: answers %d and tells %d, and not %d and %d\n", name, (int)k, answer, number, rows[k].answer, rows[k].told);
+            printf("%s, row %d: answers %d and gives %d, and not %d and %d\n", name, (int)k, answer, number, rows[k].answer, rows[k].told);
             wrong += 1;
         }
     }

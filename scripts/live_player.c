@@ -54,7 +54,7 @@ static int opened(int flags) {
 
 static audio_buf_info space_of(int fd) {
     audio_buf_info is;
-    need(ioctl(fd, SNDCTL_DSP_GETOSPACE, &is) == 0, "no space is told");
+    need(ioctl(fd, SNDCTL_DSP_GETOSPACE, &is) == 0, "no space is reported");
     return is;
 }
 
@@ -241,12 +241,12 @@ static void by_looks(void) {
     need(stat("/dev/dsp", &is) == 0 && S_ISCHR(is.st_mode), "stat finds no device");
     need(lstat("/dev/dsp0", &is) == 0 && S_ISCHR(is.st_mode), "lstat finds no device");
     need(stat("/dev/mixer", &is) == 0 && S_ISCHR(is.st_mode), "stat finds no mixer");
-    need(access("/dev/dsp", R_OK | W_OK) == 0 && access("/dev/dsp", X_OK) < 0, "access is told otherwise");
+    need(access("/dev/dsp", R_OK | W_OK) == 0 && access("/dev/dsp", X_OK) < 0, "access is answered otherwise");
     need(access("/dev/dspX", F_OK) < 0 && stat("/dev/dsp-x", &is) < 0, "a device that isn't there is");
     int fd = opened(O_WRONLY);
     need(fstat(fd, &is) == 0 && S_ISCHR(is.st_mode), "fstat finds no device");
     need(asked(fd, OSS_GETVERSION, 0) == 0x040000 && asked(fd, SOUND_PCM_READ_BITS, 0) == 16, "a request is answered otherwise");
-    need(ioctl(fd, SNDCTL_DSP_GETISPACE, &(audio_buf_info){0}) < 0 && errno == EINVAL, "a player tells what it recorded");
+    need(ioctl(fd, SNDCTL_DSP_GETISPACE, &(audio_buf_info){0}) < 0 && errno == EINVAL, "a player reports what it recorded");
     need(read(fd, &(char){0}, 1) < 0 && errno == EBADF, "a player is read");
     need(lseek(fd, 0, SEEK_CUR) < 0 && errno == ESPIPE, "a device has places");
     need(asked(fd, SNDCTL_DSP_SPEED, 1000000) == 192000 && asked(fd, SNDCTL_DSP_SPEED, RATE) == RATE, "a rate isn't moved");
@@ -260,7 +260,7 @@ static void by_mixer(void) {
     need(asked(fd, SOUND_MIXER_READ_DEVMASK, 0) == (SOUND_MASK_VOLUME | SOUND_MASK_PCM), "other lines");
     need(asked(fd, SOUND_MIXER_WRITE_VOLUME, volume) == (50 | 100 << 8), "a volume isn't moved");
     need(asked(fd, SOUND_MIXER_WRITE_PCM, 30 | 30 << 8) == (30 | 30 << 8), "another volume");
-    need(asked(fd, SOUND_MIXER_READ_VOLUME, 0) == (50 | 100 << 8), "another volume is told");
+    need(asked(fd, SOUND_MIXER_READ_VOLUME, 0) == (50 | 100 << 8), "another volume is reported");
     need(asked(fd, SOUND_MIXER_WRITE_VOLUME, 100 | 100 << 8) == (100 | 100 << 8) && asked(fd, SOUND_MIXER_WRITE_PCM, 100 | 100 << 8) > 0, "no volume");
     need(ioctl(fd, SOUND_MIXER_WRITE_BASS, &volume) < 0 && errno == EINVAL, "there are tones");
     close(fd);

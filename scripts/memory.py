@@ -121,7 +121,7 @@ def taken_behind_a_file(code_by_file, words):
             for call in calls.finditer(code, function.body, function.end):
                 rest = code[behind(code, call.start()) : function.end]
                 for found in [*words.finditer(rest), *HEAP.finditer(rest)]:
-                    yield f"{file.relative_to(ROOT / 'crates')}: {found[0]} stands behind the file that {function.name} has created"
+                    yield f"{file.relative_to(ROOT / 'crates')}: {found[0]} stands after {function.name} has created a file"
 
 
 def memory_taken():

@@ -91,7 +91,7 @@ def try_places(program, folder):
     equal("fewer frames", tool("compare", one, two), (1, "1000 and 100 frames\nall frames that both have are equal\n"))
     two.write_bytes(bytes([0, 0, 0, 0, 1, 0, 0, 0]) * 500)
     said = tool("compare", one, two)[1].splitlines()
-    equal("many places", said[1:], ["500 of 1000 frames differ, by at most 1", "frames 1 to 999: by at most 1", "places no more than 4 frames apart are told as one"])
+    equal("many places", said[1:], ["500 of 1000 frames differ, by at most 1", "frames 1 to 999: by at most 1", "places no more than 4 frames apart are printed as one"])
     equal("from a pipe", tool("compare", one, "-", stdin=one.read_bytes().decode("latin-1")), (0, ""))
     two.write_bytes(b"")
     equal("nothing to compare", tool("compare", two, two), (3, "there is nothing to compare: neither file has a frame\n"))
@@ -172,9 +172,9 @@ def try_compare_cut(program, folder):
     for name, data in (("one", b"abcdefgh"), ("two", b"abcdefghi"), ("three", b"abcdefghj"), ("four", b"abcd")):
         (folder / name).write_bytes(data)
     for first, second, told in (
-            ("one", "one", ""), ("two", "two", ""), ("one", "two", "behind the last frames stand 0 and 1 bytes of another, which differ\n"),
-            ("two", "three", "behind the last frames stand 1 and 1 bytes of another, which differ\n"),
-            ("four", "two", "1 and 2 frames\nall frames that both have are equal\nbehind the last frames stand 0 and 1 bytes of another, which differ\n")):
+            ("one", "one", ""), ("two", "two", ""), ("one", "two", "after the last frames stand 0 and 1 bytes of another, which differ\n"),
+            ("two", "three", "after the last frames stand 1 and 1 bytes of another, which differ\n"),
+            ("four", "two", "1 and 2 frames\nall frames that both have are equal\nafter the last frames stand 0 and 1 bytes of another, which differ\n")):
         equal(f"compare {first} {second}", tool("compare", folder / first, folder / second), (int(first != second), told))
 
 

@@ -83,10 +83,10 @@ def try_live_ends(program, folder):
             ("a full disk", ["--out", "/dev/full", "--", made, "writes"], (5, "live: /dev/full: it can't be written\n")),
             ("a full disk for a script", ["--script", "/dev/full", "--", made, "writes"], (1, None)),
             ("a folder", ["--out", ".", "--", made, "writes"], (1, "live: .: a folder\n")),
-            ("no words", ["--fast"], (2, "live: `--` and a program are wanted; live --help tells more\n")),
+            ("no words", ["--fast"], (2, "live: `--` and a program are wanted; live --help says more\n")),
             ("one file for two", ["--script", "x", "--out", "x.wav", "--", "true"],
-             (2, "live: x.wav is where the sound of the script goes: --out is another file; live --help tells more\n")),
-            ("three channels", ["--channels", "3", "--", "true"], (2, "live: --channels is 1, 2, 4, 6 or 8; live --help tells more\n"))):
+             (2, "live: x.wav is where the sound of the script goes: --out is another file; live --help says more\n")),
+            ("three channels", ["--channels", "3", "--", "true"], (2, "live: --channels is 1, 2, 4, 6 or 8; live --help says more\n"))):
         status, said = live(folder, *usual, *words)
         equal(f"live: {what}", (status, said if wanted[1] is not None else None), wanted)
     equal("files", sorted(it.name for it in folder.iterdir() if it.name != "x.wav"), ["player", "text"])

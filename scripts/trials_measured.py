@@ -35,7 +35,7 @@ def try_filter(program, folder):
     ask(program, "run", folder / "script", folder / "out", folder / "config")
     heard = samples_of((folder / "out").read_bytes()[2 * 4096:], Device("s16le", 1, 12000, 0, 0))
     equal("a constant", set(heard[16:2980]), {(1234,)})
-    equal("filter of an odd number", tool("filter", 8000, 12000, 12, 15), (2, "filter: TAPS is even, and 2 to 64; filter --help tells more\n"))
+    equal("filter of an odd number", tool("filter", 8000, 12000, 12, 15), (2, "filter: TAPS is even, and 2 to 64; filter --help says more\n"))
 
 
 def try_sweep_filters(program, folder):
@@ -49,7 +49,7 @@ def try_sweep_filters(program, folder):
     equal("the first of two", tone_of(said, 1999) != "-1.374", True)
     status, said, errors = called("sweep", table, "--table", 2, "--program", program)
     equal("the second of two", (status, tone_of(said, 1999), errors), (0, "-1.374", ""))
-    for out, status, fault in (("x.jpg", 2, f"--picture is FILE.svg or FILE.png: '{folder / 'x.jpg'}' isn't; sweep --help tells more"),
+    for out, status, fault in (("x.jpg", 2, f"--picture is FILE.svg or FILE.png: '{folder / 'x.jpg'}' isn't; sweep --help says more"),
                                ("x.png", 1, "a PNG needs rsvg-convert, inkscape or ImageMagick in the path")):
         words = [sys.executable, TOOLS / "sweep", table, "--picture", folder / out, "--program", program]
         ran = subprocess.run(list(map(str, words)), env={"PATH": ""}, stdout=subprocess.PIPE, stderr=subprocess.PIPE, universal_newlines=True, check=False)
@@ -69,14 +69,14 @@ def try_equaliser(program, folder):
         ask(program, "run", folder / "script", folder / "out", folder / "config")
         outs.append((folder / "out").read_bytes())
     equal("a peak of no decibels", (outs[0] == outs[1], any(outs[0][4096:])), (True, True))
-    equal("no section", tool("equaliser", 8000), (2, "equaliser: there are 1 to 4 sections; equaliser --help tells more\n"))
+    equal("no section", tool("equaliser", 8000), (2, "equaliser: there are 1 to 4 sections; equaliser --help says more\n"))
 
 
 def try_sweep_rates(program, folder):
     """A peak of six decibels has them at its Hz where it is measured at its rate: that of the mix, or the one that it was made for."""
     sections, config = tool("equaliser", 8000, "peak", 1000, 6, 1)[1], folder / "config"
     for text, said in (("[device]\nrate = 16000\n[vchans]\nrate = 8000\n", ""), ("", (
-            "sweep: no rate is told: the sections are measured at 8000, for which they were made; --rate R measures at another\n"))):
+            "sweep: no rate is given: the sections are measured at 8000, for which they were made; --rate R measures at another\n"))):
         config.write_text(text + sections)
         status, told, errors = called("sweep", config, "--picture", folder / "drawn.svg", "--program", program)
         equal(f"a peak of six decibels {text!r}", (status, tone_of(told, 1000), errors), (0, "6.000", said))
@@ -84,7 +84,7 @@ def try_sweep_rates(program, folder):
     plain = "".join(line for line in sections.splitlines(True) if not line.startswith("#"))
     config.write_text(plain)
     status, _, errors = called("sweep", config, "--rate", 4000, "--program", program)
-    equal("a rate that is told", (status, errors), (0, ""))
+    equal("a rate that is given", (status, errors), (0, ""))
     config.write_text("[device]\nrate = 4000\n" + sections)
     errors = called("sweep", config, "--program", program)[2]
     equal("another rate", errors, "sweep: the sections were made for 8000, and are measured at 4000, at which they are others\n")

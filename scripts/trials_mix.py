@@ -76,10 +76,10 @@ def try_mix_refusals(program, folder):
             ("--at", "soon", "--at is 0 or more seconds: 'soon' isn't"), ("--quality", "5", "--quality is 0 to 4: '5' isn't"),
             ("--rate", "3999", "--rate is 4000 to 192000: '3999' isn't"))
     for option, value, said in rows:
-        equal(f"{option} {value}", tool("mix", option, value, wave, folder / "x.wav"), (2, f"mix: {said}; mix --help tells more\n"))
+        equal(f"{option} {value}", tool("mix", option, value, wave, folder / "x.wav"), (2, f"mix: {said}; mix --help says more\n"))
     before = other.read_bytes()
     status, said = tool("mix", "--program", program, wave, other, "--volume", 50)
-    equal("a volume behind the last", (status, "--volume behind the last wave belongs to none" in said), (2, True))
+    equal("a volume after the last", (status, "--volume after the last wave belongs to none" in said), (2, True))
     status, said = tool("mix", "--program", program, wave, "--volume", 50, other)
     equal("a volume before OUT", (status, f"--volume before {other} belongs to no wave" in said), (2, True))
     status, said = tool("mix", "--program", program, wave, other)

@@ -132,7 +132,7 @@ def try_picture_events(program, folder):
         equal("no converter", (ran.returncode, ran.stderr), (1, "picture: a PNG needs rsvg-convert, inkscape or ImageMagick in the path\n"))
     for out in ("drawn.jpg", "drawn.PDF"):
         equal(out, (tool("picture", script, "--out", folder / out, "--program", program), (folder / out).exists()), (
-            (2, f"picture: --out is FILE.svg or FILE.png: '{folder / out}' isn't; picture --help tells more\n"), False))
+            (2, f"picture: --out is FILE.svg or FILE.png: '{folder / out}' isn't; picture --help says more\n"), False))
 
 
 def try_kept_frames(program, folder):

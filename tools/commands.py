@@ -171,7 +171,7 @@ def ended(act, doc, options, words, faulty):
             sys.stdout.flush()
         return status
     except WrongWords as fault:
-        say(f"{fault}; {name()} --help tells more")
+        say(f"{fault}; {name()} --help says more")
         return WRONG
     except Fault as fault:
         say(fault)

@@ -94,7 +94,7 @@ class Reasons {
     button.addEventListener("click", () => copyText(words, button));
     const row = element("p", "command");
     row.append(element("code", "", words), button);
-    const note = isKnown ? "The same on a terminal:" : "The reasons of this frame aren't in this file. This command tells them:";
+    const note = isKnown ? "The same on a terminal:" : "The reasons of this frame aren't in this file. This command prints them:";
     return [element("p", "note", note), row];
   }
 

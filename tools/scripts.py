@@ -316,9 +316,9 @@ def mixed_turns(room, counts):
     counts, rates = list(counts), rates_of(room.config)
     if "rate" not in rates or not counts:
         return counts
-    replies, sound = room.run(list(with_a_gauge(counts, rates["rate"], room.device.rate)), does="the program tells what is mixed")
+    replies, sound = room.run(list(with_a_gauge(counts, rates["rate"], room.device.rate)), does="the program says what is mixed")
     room.forget(sound)
     if "underruns=0" not in replies[-1]:
-        fail("how many frames are mixed could not be told: a client at the rate of the mix was short")
+        fail("how many frames are mixed can't be known: a client at the rate of the mix was short")
     taken = [int(answer.split()[1][6:]) for answer in replies if answer.startswith("ok bytes=")]
     return [after - before for before, after in zip([0, *taken], taken)]
