@@ -3,7 +3,7 @@
  */
 #include "dsp_engine.h"
 
-/* What one request would be answered, or another where the channel is of the other way. */
+/* What one request would be answered, or another where the channel is of another way. */
 static int32_t peek_either(struct dsp_engine *engine, uint32_t fd, enum dsp_request one, enum dsp_request other, struct dsp_answer *answer) {
     int32_t number = dsp_engine_peek(engine, fd, one, 0, answer);
     return number == DSP_INVALID ? dsp_engine_peek(engine, fd, other, 0, answer) : number;

@@ -175,7 +175,7 @@ struct meaning {
 static const struct meaning meanings[] = {
     [-1 - DSP_AGAIN] = {EAGAIN, "the ring has no room for a write now, or no byte for a read"},
     [-1 - DSP_BUSY] = {EBUSY, "no slot is free, or the channel's state doesn't allow it"},
-    [-1 - DSP_INVALID] = {EINVAL, "the request is of the other way, or its argument is outside its set"},
+    [-1 - DSP_INVALID] = {EINVAL, "the request is of another way, or its argument is outside its set"},
     [-1 - DSP_BAD_DESCRIPTOR] = {EBADF, "the descriptor isn't open"},
     [-1 - DSP_EXISTS] = {EEXIST, "the descriptor is open already"},
     [-1 - DSP_NO_MEMORY] = {ENOMEM, "there is no memory"},

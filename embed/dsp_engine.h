@@ -59,7 +59,7 @@ extern "C" {
 #define DSP_AGAIN (-1)
 /* No slot is free, or the channel's state doesn't allow it. */
 #define DSP_BUSY (-2)
-/* The request is of the other way, or its argument is outside its set. */
+/* The request is of another way, or its argument is outside its set. */
 #define DSP_INVALID (-3)
 /* The descriptor isn't open. */
 #define DSP_BAD_DESCRIPTOR (-4)

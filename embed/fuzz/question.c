@@ -53,7 +53,7 @@ int64_t ask_question(struct dsp_engine *engine, const struct call *call, union r
     }
 }
 
-/* What a request would answer, or of a channel of the other way another one. */
+/* What a request would answer, or of a channel of another way another one. */
 static int32_t peek(struct dsp_engine *engine, uint32_t fd, enum dsp_request one, enum dsp_request other, struct dsp_answer *answer) {
     int32_t number = dsp_engine_peek(engine, fd, one, 0, answer);
     return number == DSP_INVALID ? dsp_engine_peek(engine, fd, other, 0, answer) : number;

@@ -14,7 +14,7 @@ pub enum Refusal {
     Again,
     /// No slot is free, or the channel's state doesn't allow it.
     Busy,
-    /// The request is of the other way, or its argument is outside its set.
+    /// The request is of another way, or its argument is outside its set.
     Invalid,
     /// The descriptor isn't open.
     BadDescriptor,
