@@ -13,7 +13,7 @@ ghost use Rattle.pcm_oss.specs.declared.reply.TheConstants.{REPLY_BYTES};
 ghost use Rattle.pcm_oss.specs.declared.volume.TheConstants.{VOLUME};
 ghost use Rattle.pcm_report.specs.declared.line.TheConstants.{LINE_BYTES};
 ghost use Rattle.pcm_report.specs.declared.texts.TheConstants.{DIGITS};
-ghost use Rattle.pcm_group.specs.declared.sync_groups.TheConstants.{GROUPS, MEMBERS};
+ghost use Rattle.pcm_group.specs.declared.sync_groups.TheConstants.{GROUPS};
 ghost use Rattle.pcm_plan.specs.declared.plan.TheConstants.{STAGES};
 ghost use Rattle.pcm_chain.specs.declared.staging.TheConstants.{BLOCK_FRAMES};
 ghost use Rattle.pcm_desk.specs.declared.device.TheConstants.{OPENING, QUALITY_MOST};
@@ -30,7 +30,6 @@ pub fn limits_of_a_run()
     ensures descriptors { DESCRIPTORS ≡ 64 }
     ensures slots { SLOTS ≡ 16 }
     ensures groups { GROUPS ≡ 8 }
-    ensures members { MEMBERS ≡ 32 }
     ensures racks { RACKS ≡ 33 }
     ensures written { WRITE_BYTES ≡ 4096 }
     ensures read { READ_BYTES ≡ 4096 }
