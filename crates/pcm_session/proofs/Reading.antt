@@ -28,7 +28,7 @@ front_within rings count (Some held) = at held.way
 -- the step of a read, if its descriptor is one
 within : {B : Type 0} (kept : B → Kept) (room : ℕ) (old new : EngineOf B) (told : Reply) (found : Option ℕ) → IsStepOf kept (found >>= (λ fd. Some (Read fd (min room READ_BYTES)))) [] [] old new told [] → length told.bytes ≤ room
 within kept room old new told (Some fd) step =
-    let got = step.taken fd (min room READ_BYTES) refl in
+    let got = step.rules.taken fd (min room READ_BYTES) refl in
     let few = front_within (waiting_in old) (min room READ_BYTES) (held_by (desk_of old) fd) in
     rw got (omega (arith, few))
 within kept room old new told None step = absurd step
