@@ -1,7 +1,7 @@
 //! The bytes of an area: silent ones, and those that are taken in turn.
 
-ghost use Rattle.std.specs.Prelude.{◌≡◌, ◌≤◌, ◌<◌, ◌++◌, length, map, take, if◌then◌else◌};
-ghost use Rattle.std.specs.List.{range_with_len};
+ghost use Rattle.std.specs.Prelude.{◌≡◌, ◌≤◌, ◌<◌, ◌++◌, ◌%◌, ◌==◌, length, map, take, slice_index_or, if◌then◌else◌};
+ghost use Rattle.std.specs.List.{list_all, range_with_len};
 ghost use Rattle.pcm_oss.specs.declared.fragments.TheConstants.{RING_BYTES};
 ghost use Rattle.pcm_oss.specs.Fragments.{AreFragments};
 ghost use Rattle.pcm_ring.specs.Ring.{free_bytes};
@@ -48,11 +48,31 @@ pub fn silence(area: &mut [u8], opening: &Opening)
 fn fill_silent(bytes: &mut [u8], format: Format)
     ensures { bytes.new ≡ map (silent_byte format) (range_with_len 0 (length bytes.old)) }
 {
-    let width = format.bytes();
     let mut sample = [0u8; 4];
-    spell(format, 0, &mut sample[..width]);
+    let silent = &mut sample[..format.bytes()];
+    spell(format, 0, silent);
+    if is_zero(silent) {
+        bytes.fill(0);
+    } else {
+        repeat(silent, bytes);
+    }
+}
+
+// Whether each byte is 0.
+fn is_zero(sample: &[u8]) -> bool
+    ensures { result ≡ list_all (λ b. b == 0) sample.now }
+{
+    sample.iter().all(|byte| *byte == 0)
+}
+
+// Fills with the bytes of a sample, over and over.
+fn repeat(sample: &[u8], bytes: &mut [u8])
+    requires { 0 < length sample.now }
+    ensures { bytes.new
+        ≡ map (λ b. slice_index_or sample.now (b % length sample.now) 0) (range_with_len 0 (length bytes.old)) }
+{
     for at in 0..bytes.len() {
-        bytes[at] = sample[at % width];
+        bytes[at] = sample[at % sample.len()];
     }
 }
 

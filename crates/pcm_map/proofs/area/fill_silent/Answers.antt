@@ -1,8 +1,10 @@
-use Rattle.std.proofs.Common.{length, arith}
-use Rattle.std.proofs.lemmas.List.FromFn.{fill_by_all}
-use Rattle.pcm_sound.specs.Areas.{silent_byte}
+use Rattle.std.proofs.Common.{length, ◌∙◌, sym, ap}
+use Rattle.std.specs.Prelude.{◌==◌}
+use Rattle.std.specs.List.{list_all}
+use Rattle.pcm_map.proofs.Areas.{silent-zeros}
 use Rattle.pcm_map.proofs.area.fill_silent.Goals as goal
 
-pub returns : goal.returns
-returns c =
-    fill_by_all (silent_byte c.args.format) c.loop-at.bytes (length c.args.bytes.now) 0 c.loop-at.invariant.size (λ k below. c.loop-at.invariant.silent k (omega (arith, c.loop-at-test.false)))
+pub returns-then-is_zero : goal.returns-then-is_zero
+returns-then-is_zero c =
+    c.fill.ensures.after (λ y is. is)
+    ∙ silent-zeros c.args.format (length c.args.bytes.now) (ap (list_all (λ b. b == 0)) (sym c.spell.ensures) ∙ sym c.is_zero.ensures ∙ c.if-is_zero.true)
