@@ -74,7 +74,7 @@ bytes_in-room word =
 -- ---- files
 
 -- a file
-some_file : DataFileSeen
+pub some_file : DataFileSeen
 some_file = record { name = []; bytes = []; wave = record { format = U8; layout = One; rate = 0; at = 0; len = 0 } }
 
 found-place : {A : Type 0} (found : Option A) {P : A → Type 0} → ((value : A) → found ≡ Some value → P value) → IfOk (or_fault found Name) P

@@ -5,6 +5,7 @@ pub mod Numerals
 pub mod Counts
 pub mod Judgements
 pub mod Asked
+pub mod Finding
 pub mod Kept
 pub mod Reading
 pub mod Fitting

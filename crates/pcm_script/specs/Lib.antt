@@ -4,6 +4,7 @@ pub mod Numbers
 pub mod Names
 pub mod Requests
 pub mod Commands
+pub mod Listed
 pub mod Collecting
 pub mod Lines
 pub mod Kinds

@@ -1,10 +1,11 @@
 //! The words that follow a command.
 
-ghost use Rattle.std.specs.Prelude.{◌≡◌, ◌+◌, ◌^◌, ◌<◌, ◌≤◌, IfOk, IfSome, length, position};
+ghost use Rattle.std.specs.Prelude.{◌≡◌, ◌+◌, ◌^◌, ◌<◌, ◌≤◌, IfOk, length};
 ghost use Rattle.pcm_script.specs.Answers.{Gives};
-ghost use Rattle.pcm_script.specs.Commands.{argument_in, bytes_in, code_in, descriptor_in, file_in, format_in, is_file_named, layout_in, length_in, rate_in, size_of, way_in};
+ghost use Rattle.pcm_script.specs.Commands.{argument_in, bytes_in, code_in, descriptor_in, file_in, format_in, layout_in, length_in, rate_in, size_of, way_in};
 
 use crate::fault::LineFault;
+use crate::listed::Listed;
 use crate::names::way_named;
 use crate::number::{number_in, number_within};
 use crate::request::Setter;
@@ -55,19 +56,11 @@ pub(crate) fn rate_in(word: &[u8]) -> Result<u32, ScriptKind>
 }
 
 // The place of the file that a word names.
-pub(crate) fn file_in(files: &[DataFile], word: &[u8]) -> Result<usize, ScriptKind>
-    ensures value { result ≡ file_in files.now word.now }
-    ensures within { IfOk result (λ place. place < length files.now) }
+pub(crate) fn file_in(files: &Listed<'_>, word: &[u8]) -> Result<usize, ScriptKind>
+    ensures value { result ≡ file_in files.now.all.now word.now }
+    ensures within { IfOk result (λ place. place < length files.now.all.now) }
 {
-    place_named(files, word).ok_or(ScriptKind::Name)
-}
-
-// The place of the first file that a word names.
-fn place_named(files: &[DataFile], word: &[u8]) -> Option<usize>
-    ensures value { result ≡ position (is_file_named word.now) files.now }
-    ensures within { IfSome result (λ place. place < length files.now) }
-{
-    files.iter().position(|file| is_file_named(file, word))
+    files.place_named(word).ok_or(ScriptKind::Name)
 }
 
 // How many bytes the file at a place has to send.
@@ -77,13 +70,6 @@ pub(crate) fn size_of(files: &[DataFile], place: usize) -> u64
     ensures most { result < 2 ^ 32 }
 {
     files[place].body().len() as u64
-}
-
-// Whether a word names a file.
-fn is_file_named(file: &DataFile, word: &[u8]) -> bool
-    ensures { result ≡ is_file_named word.now file.now }
-{
-    file.name().as_bytes() == word
 }
 
 // How many bytes a word asks for, which must stand after place `at` of a body of this size.

@@ -13,6 +13,7 @@ use crate::argument::{
 };
 use crate::fault::LineFault;
 use crate::line_event::LineEvent;
+use crate::listed::Listed;
 use crate::mixer::mixer_line;
 use crate::names::Command;
 use crate::number::{number_in, number_within};
@@ -20,7 +21,7 @@ use crate::request::{full_request, plain_request};
 use pcm_desk::{Device, OPENING, READ_BYTES};
 use pcm_format::{Bytes, Settings};
 use pcm_oss::Event;
-use pcm_wave::{DataFile, Source};
+use pcm_wave::Source;
 use std::alloc::Global;
 
 // What a line of these words asks for.
@@ -28,10 +29,10 @@ use std::alloc::Global;
 pub(crate) fn line_event(
     alloc: Global,
     device: &Device,
-    files: &[DataFile],
+    files: &Listed<'_>,
     words: &[&[u8]],
 ) -> Result<Option<LineEvent>, LineFault>
-    ensures { Asks result (line_event (unfiltered device.now) files.now (lent words.now)) }
+    ensures { Asks result (line_event (unfiltered device.now) files.now.all.now (lent words.now)) }
 {
     match words {
         [] => Ok(None),
@@ -43,12 +44,12 @@ pub(crate) fn line_event(
 fn command_line(
     alloc: Global,
     device: &Device,
-    files: &[DataFile],
+    files: &Listed<'_>,
     word: &[u8],
     arguments: &[&[u8]],
 ) -> Result<LineEvent, LineFault>
     ensures { Asks result
-        (command_line (unfiltered device.now) files.now word.now (lent arguments.now)) }
+        (command_line (unfiltered device.now) files.now.all.now word.now (lent arguments.now)) }
 {
     let command = Command::from_name(word).ok_or(ScriptKind::Word)?;
     asked_by(alloc, device, files, command, arguments)
@@ -58,12 +59,12 @@ fn command_line(
 fn asked_by(
     alloc: Global,
     device: &Device,
-    files: &[DataFile],
+    files: &Listed<'_>,
     command: Command,
     arguments: &[&[u8]],
 ) -> Result<LineEvent, LineFault>
     ensures { Asks result
-        (asked_by (unfiltered device.now) files.now command (lent arguments.now)) }
+        (asked_by (unfiltered device.now) files.now.all.now command (lent arguments.now)) }
 {
     match command {
         Command::Open => Ok(LineEvent::Whole(open_line(arguments)?)),
@@ -136,8 +137,8 @@ fn full_write(alloc: Global, d: &[u8], h: &[u8]) -> Result<LineEvent, LineFault>
 }
 
 #[tactic(auto, unfolding(crate::specs::Commands::send_line))]
-fn send_line(files: &[DataFile], arguments: &[&[u8]]) -> Result<Event, ScriptKind>
-    ensures { result ≡ send_line files.now (lent arguments.now) }
+fn send_line(files: &Listed<'_>, arguments: &[&[u8]]) -> Result<Event, ScriptKind>
+    ensures { result ≡ send_line files.now.all.now (lent arguments.now) }
 {
     let [d, f, o, l] = arguments else {
         return Err(ScriptKind::Count);
@@ -148,18 +149,18 @@ fn send_line(files: &[DataFile], arguments: &[&[u8]]) -> Result<Event, ScriptKin
 // A send that names a descriptor, a file, and a part of its body.
 #[tactic(auto, unfolding(crate::specs::Commands::send_line))]
 fn full_send(
-    files: &[DataFile],
+    files: &Listed<'_>,
     d: &[u8],
     f: &[u8],
     o: &[u8],
     l: &[u8],
 ) -> Result<Event, ScriptKind>
-    ensures { result ≡ send_line files.now (d.now ∷ f.now ∷ o.now ∷ l.now ∷ []) }
+    ensures { result ≡ send_line files.now.all.now (d.now ∷ f.now ∷ o.now ∷ l.now ∷ []) }
 {
     let fd = descriptor_in(d)?;
     let file = file_in(files, f)?;
     let at = number_in(o)?;
-    let count = length_in(size_of(files, file), at, l)?;
+    let count = length_in(size_of(files.all, file), at, l)?;
     Ok(Event::Write {
         fd,
         source: Source::File(file),

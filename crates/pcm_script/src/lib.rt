@@ -10,6 +10,7 @@ mod hexadecimal;
 mod limits;
 mod line_event;
 mod lines;
+mod listed;
 mod mixer;
 mod names;
 mod number;

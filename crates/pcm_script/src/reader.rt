@@ -15,6 +15,7 @@ use crate::draft::Draft;
 use crate::fault::LineFault;
 use crate::line_event::LineEvent;
 use crate::lines::first_line;
+use crate::listed::Listed;
 use crate::words::first_words;
 use crate::{Refusal, Script, ScriptFault, ScriptKind, TEXT_BYTES};
 use pcm_desk::Device;
@@ -23,7 +24,6 @@ use std::alloc::Global;
 
 /// Reads a script for a device and data files, whose bodies its lines may send: all its events, or its first line that is
 /// refused.
-#[tactic(auto, unfolding(crate::specs::Lines::script_read))]
 pub fn script_of(
     alloc: Global,
     bytes: &[u8],
@@ -38,6 +38,25 @@ pub fn script_of(
 
     // What a script keeps.
     ensures fits { IfOk result (λ script. AllFit (unfiltered device.now) files.now script) }
+    ensures counts { IfOk result (λ script. length script.events ≤ EVENTS) }
+    ensures frames { IfOk result (λ script. bytes_taken (unfiltered device.now) script ≤ DEVICE_BYTES) }
+    ensures sum { IfOk result (λ script. script.device_frames ≡ all_frames_taken script.events) }
+{
+    script_with(alloc, bytes, device, &Listed::of(files))
+}
+
+// Reads a script with these files.
+#[tactic(auto, unfolding(crate::specs::Lines::script_read))]
+fn script_with(
+    alloc: Global,
+    bytes: &[u8],
+    device: &Device,
+    files: &Listed<'_>,
+) -> Result<Script, ScriptFault>
+    requires block { 0 < device.now.block_frames }
+    requires ring { device.now.block_frames ≤ device.now.ring_frames }
+    ensures read { ReadsScript result (script_read (unfiltered device.now) files.now.all.now bytes.now) }
+    ensures fits { IfOk result (λ script. AllFit (unfiltered device.now) files.now.all.now script) }
     ensures counts { IfOk result (λ script. length script.events ≤ EVENTS) }
     ensures frames { IfOk result (λ script. bytes_taken (unfiltered device.now) script ≤ DEVICE_BYTES) }
     ensures sum { IfOk result (λ script. script.device_frames ≡ all_frames_taken script.events) }
@@ -68,10 +87,10 @@ fn add_line(
     alloc: Global,
     draft: &mut Draft,
     device: &Device,
-    files: &[DataFile],
+    files: &Listed<'_>,
     text: &[u8],
 ) -> Result<(), LineFault>
-    ensures { Leaves draft.new result (with_text (unfiltered device.now) files.now draft.old text.now) }
+    ensures { Leaves draft.new result (with_text (unfiltered device.now) files.now.all.now draft.old text.now) }
 {
     match event_of(alloc, device, files, text)? {
         None => Ok(()),
@@ -83,10 +102,10 @@ fn add_line(
 fn event_of(
     alloc: Global,
     device: &Device,
-    files: &[DataFile],
+    files: &Listed<'_>,
     text: &[u8],
 ) -> Result<Option<LineEvent>, LineFault>
-    ensures { Asks result (line_event (unfiltered device.now) files.now (words_of text.now)) }
+    ensures { Asks result (line_event (unfiltered device.now) files.now.all.now (words_of text.now)) }
 {
     let words = first_words(text);
     line_event(alloc, device, files, words.as_slice())

@@ -3,7 +3,7 @@ use Rattle.pcm_desk.specs.Device.{unfiltered}
 use Rattle.std.proofs.lemmas.Result.{IfOk-at_ok}
 use Rattle.pcm_script.proofs.Kept.{IsSound, script_read-sound}
 use Rattle.pcm_script.proofs.Reading.{left_of-less, with_lines-more, with_lines-refused, with_rest-end, script_read-lines}
-use Rattle.pcm_script.proofs.reader.script_of.Goals as goal
+use Rattle.pcm_script.proofs.reader.script_with.Goals as goal
 
 pub loop-rest-preserved : goal.loop-rest-preserved
 loop-rest-preserved c =
@@ -24,20 +24,20 @@ returns-in-Err-Refused-clause-read c =
 pub returns-clause-read : goal.returns-clause-read
 returns-clause-read c =
     let held = rw c.in_default.is at c.loop-rest.invariant.read in
-    script_read-lines _ _ _ (omega arith) ∙ sym held ∙ with_rest-end (unfiltered c.args.device.now) c.args.files.now c.loop-rest.draft c.loop-rest.line ∙ ap Ok (sym c.into_script.ensures)
+    script_read-lines _ _ _ (omega arith) ∙ sym held ∙ with_rest-end (unfiltered c.args.device.now) c.args.files.now.all.now c.loop-rest.draft c.loop-rest.line ∙ ap Ok (sym c.into_script.ensures)
 
 pub returns-clause-fits : goal.returns-clause-fits
 returns-clause-fits c =
-    (IfOk-at_ok (IsSound (unfiltered c.args.device.now) c.args.files.now) (returns-clause-read c) (script_read-sound (unfiltered c.args.device.now) c.args.files.now c.args.bytes.now (record { some = c.requires.block; room = c.requires.ring }))).fits
+    (IfOk-at_ok (IsSound (unfiltered c.args.device.now) c.args.files.now.all.now) (returns-clause-read c) (script_read-sound (unfiltered c.args.device.now) c.args.files.now.all.now c.args.bytes.now (record { some = c.requires.block; room = c.requires.ring }))).fits
 
 pub returns-clause-counts : goal.returns-clause-counts
 returns-clause-counts c =
-    (IfOk-at_ok (IsSound (unfiltered c.args.device.now) c.args.files.now) (returns-clause-read c) (script_read-sound (unfiltered c.args.device.now) c.args.files.now c.args.bytes.now (record { some = c.requires.block; room = c.requires.ring }))).counts
+    (IfOk-at_ok (IsSound (unfiltered c.args.device.now) c.args.files.now.all.now) (returns-clause-read c) (script_read-sound (unfiltered c.args.device.now) c.args.files.now.all.now c.args.bytes.now (record { some = c.requires.block; room = c.requires.ring }))).counts
 
 pub returns-clause-frames : goal.returns-clause-frames
 returns-clause-frames c =
-    (IfOk-at_ok (IsSound (unfiltered c.args.device.now) c.args.files.now) (returns-clause-read c) (script_read-sound (unfiltered c.args.device.now) c.args.files.now c.args.bytes.now (record { some = c.requires.block; room = c.requires.ring }))).frames
+    (IfOk-at_ok (IsSound (unfiltered c.args.device.now) c.args.files.now.all.now) (returns-clause-read c) (script_read-sound (unfiltered c.args.device.now) c.args.files.now.all.now c.args.bytes.now (record { some = c.requires.block; room = c.requires.ring }))).frames
 
 pub returns-clause-sum : goal.returns-clause-sum
 returns-clause-sum c =
-    (IfOk-at_ok (IsSound (unfiltered c.args.device.now) c.args.files.now) (returns-clause-read c) (script_read-sound (unfiltered c.args.device.now) c.args.files.now c.args.bytes.now (record { some = c.requires.block; room = c.requires.ring }))).sum
+    (IfOk-at_ok (IsSound (unfiltered c.args.device.now) c.args.files.now.all.now) (returns-clause-read c) (script_read-sound (unfiltered c.args.device.now) c.args.files.now.all.now c.args.bytes.now (record { some = c.requires.block; room = c.requires.ring }))).sum
