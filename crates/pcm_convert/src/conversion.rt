@@ -21,7 +21,7 @@ use pcm_ring::ByteRing;
 use std::alloc::{AllocError, Global};
 
 /// How many frames a block has, at most.
-pub const BLOCK: usize = 4096;
+pub const BLOCK: usize = 16384;
 
 // A conversion draws lines between frames.
 pub(crate) const QUALITY: u32 = 1;
