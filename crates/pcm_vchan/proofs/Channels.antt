@@ -1,6 +1,6 @@
 -- The channels of a device, one of them changed or all refilled.
-use Rattle.std.proofs.Common.{◌≡◌, ℕ, ℤ, ◌*◌, ◌+◌, ◌<◌, ◌≤◌, Bool, true, false, cond, List, [], ◌∷◌, ◌++◌, length, map, set, get_or, take, Some, None, All, refl, sym, ap, ◌∙◌, subst, inl, inr, arith, get_or-set_same, get_or-set_other}
-use Rattle.std.specs.Prelude.{not, ◌&&◌, ◌||◌, nat_lt, position}
+use Rattle.std.proofs.Common.{◌≡◌, ℕ, ℤ, ◌*◌, ◌+◌, ◌<◌, ◌≤◌, Bool, true, false, cond, List, [], ◌++◌, length, map, set, get_or, take, All, refl, sym, ap, ◌∙◌, subst, inl, inr, arith, get_or-set_same, get_or-set_other}
+use Rattle.std.specs.Prelude.{not, ◌&&◌, ◌||◌}
 use Rattle.std.proofs.Props.{props}
 use mathlib.Core.HLevel.{is_prop→PathP}
 use Rattle.pcm_fixed.specs.Fixed.{fixed_len}
@@ -9,7 +9,6 @@ use Rattle.pcm_format.specs.Frames.{Frame, frame_bytes}
 use Rattle.pcm_format.specs.Layouts.{channels_of}
 use Rattle.pcm_desk.specs.declared.limits.TheConstants.{RING_FRAMES}
 use Rattle.pcm_oss.specs.declared.event.TheConstants.{SLOTS}
-use Rattle.std.specs.List.{position_or_len, prefix_len}
 use Rattle.std.proofs.lemmas.List.{append-nil, get_or-map, map-set, length-map, length-set, get_or_default, same_lists, take-take}
 use Rattle.std.proofs.lemmas.Bool.{cases_eq, eq-eqb}
 use Rattle.pcm_feeder.specs.declared.kind.Kind.{Kind}
@@ -21,14 +20,12 @@ use Rattle.pcm_desk.specs.declared.play_book.PlayBook.{PlayBook}
 use Rattle.pcm_desk.specs.declared.device.Device.{Device}
 use Rattle.pcm_desk.specs.declared.here.Here.{Here}
 use Rattle.pcm_desk.specs.Device.{DeviceSeen, HasRates, mixed_for, mixed_slots, passed_for, seen, unfiltered}
-use Rattle.pcm_desk.specs.PlayBooks.{is_play_free, play_settled}
+use Rattle.pcm_desk.specs.PlayBooks.{play_settled}
 use Rattle.pcm_desk.specs.declared.record_book.RecordBook.{RecordBook}
 use Rattle.pcm_desk.specs.declared.map_book.MapBook.{MapBook}
 use Rattle.pcm_desk.specs.declared.opening.Opening.{Opening}
 use Rattle.pcm_desk.specs.MapBooks.{is_map_free, taken_of}
-use Rattle.pcm_desk.specs.RecordBooks.{is_record_free}
 use Rattle.pcm_desk.specs.Channels.{capturing, map_passing, mixed_by, mixing, play_passing, play_rate_at}
-use Rattle.pcm_desk.specs.Desk.{least_free_map, least_free_play, least_free_record}
 use Rattle.pcm_play.specs.declared.channel.PlayChannelOf.{PlayChannelOf}
 use Rattle.pcm_bus.proofs.Channels.{map_at-channel, play_at-channel, some_channel}
 use Rattle.pcm_vchan.specs.declared.parent.ParentOf.{ParentOf}
@@ -41,19 +38,6 @@ use Rattle.pcm_sound.specs.Areas.{is_recut, silences, silent_area}
 use Rattle.pcm_bus.specs.Slots.{AreMixed, Each, IsPlayDue, Mixes, PlayAreOf, map_books_of, play_books_of}
 use Rattle.pcm_vchan.specs.Slots.{MapKeeps, Passes, Settles, record_books_of}
 use Rattle.pcm_play.specs.Channels.{IsPlayReady, MayEndRun, PlayMoves, PlayStands}
-
-prefix_len-map : {X Y : Type 0} (p : Y → Bool) (f : X → Y) (xs : List X) → prefix_len p (map f xs) ≡ prefix_len (λ x. p (f x)) xs
-prefix_len-map p f [] = refl
-prefix_len-map p f (x ∷ xs) = ap (λ rest. cond (p (f x)) (1 + rest) 0) (prefix_len-map p f xs)
-
-position-map : {X Y : Type 0} (p : Y → Bool) (f : X → Y) (xs : List X) → position p (map f xs) ≡ position (λ x. p (f x)) xs
-position-map p f xs =
-    ap (λ (at : ℕ). cond (nat_lt at (length (map f xs))) (Some at) None) (prefix_len-map (λ y. not (p y)) f xs)
-    ∙ ap (λ (n : ℕ). cond (nat_lt (position_or_len (λ x. p (f x)) xs) n) (Some (position_or_len (λ x. p (f x)) xs)) None) (length-map xs f)
-
--- the least free slot of books is that of their channels
-pub least_free_play-books : {B : Type 0} (channels : List (PlayChannelOf B)) → least_free_play (play_books_of channels) ≡ position (λ (channel : PlayChannelOf B). is_play_free channel.book.state) channels
-least_free_play-books {B = B} channels = position-map (λ (book : PlayBook). is_play_free book.state) (λ (channel : PlayChannelOf B). channel.book) channels
 
 -- the books once one channel changed, whose book changed by `how`
 pub play_books_of-set : {B : Type 0} (how : PlayBook → PlayBook) (channels : List (PlayChannelOf B)) (slot : ℕ) (old new : PlayChannelOf B) (other : PlayBook) → slot < length channels → old ≡ get_or channels slot old → new.book ≡ how old.book
@@ -112,10 +96,6 @@ play_books_of-passed {B = B} device handed n old new same each =
 
 -- ---- channels that record
 
--- the least free slot of record books is that of their channels
-pub least_free_play-records : {B : Type 0} (channels : List (RecordChannelOf B)) → least_free_record (record_books_of channels) ≡ position (λ (channel : RecordChannelOf B). is_record_free channel.book.state) channels
-least_free_play-records {B = B} channels = position-map (λ (book : RecordBook). is_record_free book.state) (λ (channel : RecordChannelOf B). channel.book) channels
-
 -- the book of a channel that records
 pub record_at-channel : {B : Type 0} (channels : List (RecordChannelOf B)) (slot : ℕ) (old : RecordChannelOf B) (other : RecordBook) → slot < length channels → old ≡ get_or channels slot old → old.book ≡ get_or (record_books_of channels) slot other
 record_at-channel {B = B} channels slot old other there is = ap (λ (channel : RecordChannelOf B). channel.book) is ∙ sym (get_or-map (λ (channel : RecordChannelOf B). channel.book) channels slot old other there)
@@ -150,10 +130,6 @@ record_books_of-captured {B = B} device n old new same each =
     ∙ ap (capturing device n) (sym (get_or-map (λ (c : RecordChannelOf B). c.book) old k other d before)) ∙ sym (get_or-map (capturing device n) (record_books_of old) k d d listed))
 
 -- ---- mapped channels
-
--- the least free slot of mapped books is that of their channels
-pub least_free_map-books : {B : Type 0} (channels : List (MapChannelOf B)) → least_free_map (map_books_of channels) ≡ position (λ (channel : MapChannelOf B). is_map_free channel.book.state) channels
-least_free_map-books {B = B} channels = position-map (λ (book : MapBook). is_map_free book.state) (λ (channel : MapChannelOf B). channel.book) channels
 
 -- their books once one channel changed, whose book changed by `how`
 pub map_books_of-set : {B : Type 0} (how : MapBook → MapBook) (channels : List (MapChannelOf B)) (slot : ℕ) (old new : MapChannelOf B) (other : MapBook) → slot < length channels → old ≡ get_or channels slot old → new.book ≡ how old.book

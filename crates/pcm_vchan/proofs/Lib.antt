@@ -2,3 +2,4 @@ pub mod Channels
 pub mod Starting
 pub mod Racks
 pub mod Counting
+mod Openings

@@ -1,10 +1,9 @@
 -- What a parent is to the rules.
-use Rattle.std.specs.Prelude.{◌≡◌, ◌⊎◌, ℕ, ◌+◌, ◌^◌, ◌<◌, ◌≤◌, All, ℤ, List, [], ◌∷◌, length, take, drop, IfOk, Option, Some, None, Result, Ok, Err, slice_set}
+use Rattle.std.specs.Prelude.{◌≡◌, ◌⊎◌, ℕ, ◌+◌, ◌^◌, ◌<◌, ◌≤◌, All, ℤ, List, [], ◌∷◌, length, take, drop, Result}
 use Rattle.pcm_fixed.specs.Fixed.{fixed_items}
 use Rattle.pcm_format.specs.declared.settings.Settings.{Settings}
 use Rattle.pcm_format.specs.Frames.{Frame}
 use Rattle.pcm_oss.specs.declared.reply.Errno.{Errno}
-use Rattle.pcm_oss.specs.declared.reply.Errno.TheVariants.{Busy}
 use Rattle.pcm_feeder.specs.declared.rack.RackOf.{RackOf}
 use Rattle.pcm_feeder.specs.Racks.{HaveKinds, rack_marks}
 use Rattle.pcm_chain.specs.Chains.{boxes_in, marks_in}
@@ -37,7 +36,8 @@ use Rattle.pcm_bus.specs.Handovers.{IsPlannedBy}
 use Rattle.pcm_vchan.specs.Captures.{AllCapture}
 use Rattle.pcm_bus.specs.Slots.{Each, IsMapDue, IsPlayDue, MapAreOf, MapPlays, PlayAreOf, map_books_of, play_books_of}
 use Rattle.pcm_vchan.specs.Slots.{IsRecordDue, MapKeeps, Passes, RecordAreOf, record_books_of}
-use Rattle.pcm_vchan.specs.Racks.{map_marks, play_marks, record_marks}
+use Rattle.pcm_vchan.specs.Racks.{channel_marks}
+pub use Rattle.pcm_vchan.specs.Openings.{books_begun, slot_or_busy, Begins}
 use Rattle.pcm_vchan.specs.Starts.{EachAt}
 
 -- the channels of a parent, by slot: those that play
@@ -65,9 +65,9 @@ map_books parent = map_books_of (map_channels parent)
 -- Each slot has the boxes of its own rack: those that play have the first ones, mapped ones those after them, those that record the ones
 -- from the seventeenth on, and the bus has the one after all of these.
 pub record HasRacks {B : Type 0} (mark : B → ℕ) (racks : List (RackOf B)) (parent : ParentOf B) : Type 0 where
-  pub playing : play_marks mark (play_channels parent) ≡ rack_marks mark (take parent.device.play_slots racks)
-  pub mapped : map_marks mark (map_channels parent) ≡ rack_marks mark (take parent.device.map_slots (drop parent.device.play_slots racks))
-  pub recording : record_marks mark (record_channels parent) ≡ rack_marks mark (take parent.device.record_slots (drop SLOTS racks))
+  pub playing : channel_marks (λ channel. channel.path) mark (play_channels parent) ≡ rack_marks mark (take parent.device.play_slots racks)
+  pub mapped : channel_marks (λ channel. channel.path) mark (map_channels parent) ≡ rack_marks mark (take parent.device.map_slots (drop parent.device.play_slots racks))
+  pub recording : channel_marks (λ channel. channel.path) mark (record_channels parent) ≡ rack_marks mark (take parent.device.record_slots (drop SLOTS racks))
   pub bus : marks_in mark parent.bus.chain ∷ [] ≡ rack_marks mark (drop (SLOTS + SLOTS) racks)
 
 -- a device that a parent can be made for
@@ -176,22 +176,6 @@ abbrev pub BusTurns : {B : Type 0} → (B → Kept) → Filters → ℕ → Pare
 BusTurns kept filters n old new = TurnsBus kept (seen filters old.device) old.handed n old.mixer (play_channels old) (map_channels old) old.bus.chain new.bus.chain old.ring.bytes new.ring.bytes
 
 -- ---- opening a slot
-
--- the number of the slot that an open takes, where one is free: these are the numbers of places
-abbrev pub slot_or_busy : (ℕ → ℕ) → Option ℕ → Result ℕ Errno
-slot_or_busy number None = Err Busy
-slot_or_busy number (Some place) = Ok (number place)
-
--- the books of a way once an opening began in that slot, whose book is this one
-abbrev pub books_begun : {Book : Type 0} → Option ℕ → Book → List Book → List Book
-books_begun None begun books = books
-books_begun (Some slot) begun books = slice_set books slot begun
-
--- an open of a way with `slots` slots, whose places have these numbers: the least free one of them begins, if there is one
-pub record Begins {Book : Type 0} (number : ℕ → ℕ) (slots : ℕ) (least : Option ℕ) (begun : Book) (old new : List Book) (result : Result ℕ Errno) : Type 0 where
-  pub found : result ≡ slot_or_busy number least
-  pub books : new ≡ books_begun least begun old
-  pub there : IfOk result (λ told. told < number slots)
 
 -- all but the channels is as before: the device, its mixer device, its bus, its ring and its counts, and how many channels there are of each way
 pub record KeepsOutput {B : Type 0} (old new : ParentOf B) : Type 0 where

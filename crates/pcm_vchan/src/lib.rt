@@ -5,6 +5,7 @@
 mod parent;
 mod recorder;
 mod settler;
+mod slots;
 mod starter;
 
 pub use parent::{Parent, ParentOf};

@@ -1,12 +1,12 @@
 //! What all clients share: the slots of a device, its ring, and the buffers in which a block is mixed.
 
 ghost use Rattle.std.specs.Borrow.{sem};
-ghost use Rattle.std.specs.Prelude.{◌≡◌, ◌+◌, ◌*◌, ◌^◌, ◌<◌, ◌≤◌, ◌≤ℤ◌, pos, [], length, vec_len, All, OnErr, IfOk, IfSome, take, position, slice_index_or};
+ghost use Rattle.std.specs.Prelude.{◌≡◌, ◌+◌, ◌*◌, ◌^◌, ◌<◌, ◌≤◌, ◌≤ℤ◌, pos, [], length, All, OnErr, IfOk, take, slice_index_or};
 ghost use Rattle.pcm_fixed.specs.Fixed.{fixed_len};
 ghost use Rattle.pcm_format.specs.Frames.{frame_bytes};
 ghost use Rattle.pcm_format.specs.Layouts.{channels_of};
 ghost use Rattle.pcm_feeder.specs.Limits.{IsRate};
-ghost use Rattle.pcm_feeder.specs.Racks.{AreRacks, list_of, rack_marks};
+ghost use Rattle.pcm_feeder.specs.Racks.{AreRacks, list_of};
 ghost use Rattle.pcm_desk.specs.declared.limits.TheConstants.{RING_FRAMES};
 ghost use Rattle.pcm_oss.specs.declared.event.TheConstants.{SLOTS};
 ghost use Rattle.pcm_mixdev.specs.Mixers.{full_mixer};
@@ -15,25 +15,21 @@ ghost use Rattle.pcm_group.specs.Groups.{all_in, change_in};
 ghost use Rattle.pcm_desk.specs.Channels.{play_starting, record_starting};
 ghost use Rattle.pcm_desk.specs.Desk.{slot_number};
 ghost use Rattle.pcm_desk.specs.Here.{IsHere};
-ghost use Rattle.pcm_desk.specs.PlayBooks.{is_play_free, play_is_ready};
-ghost use Rattle.pcm_desk.specs.RecordBooks.{is_record_free};
-ghost use Rattle.pcm_desk.specs.MapBooks.{is_map_free};
-ghost use Rattle.pcm_map.specs.Channels.{IsMapReady, IsMapUnopened};
+ghost use Rattle.pcm_desk.specs.PlayBooks.{play_is_ready};
 ghost use Rattle.pcm_bus.specs.Slots.{Each, MapAreOf, PlayAreOf};
 ghost use Rattle.pcm_vchan.specs.Slots.{slot_place, RecordAreOf, Settles};
-ghost use Rattle.pcm_play.specs.Channels.{IsPlayHere, IsPlayReady, IsPlayUnopened, MayEndRun};
-ghost use Rattle.pcm_record.specs.Channels.{IsRecordReady, IsRecordUnopened};
+ghost use Rattle.pcm_play.specs.Channels.{IsPlayHere, MayEndRun};
 ghost use Rattle.pcm_vchan.specs.Starts.{EachAt, MayRecord, MayStart, Records, Starts, is_in};
 ghost use Rattle.pcm_bus.specs.Blocks.{silent_ring};
 ghost use Rattle.pcm_bus.specs.Handovers.{HasMade, IsPlannedBy};
-ghost use Rattle.pcm_vchan.specs.Racks.{map_marks, play_marks, record_marks};
 
 use crate::recorder::capture_all;
 use crate::settler::settle_all;
+use crate::slots::{open_in, unopened};
 use crate::starter::{are_ready, start_playing, start_recording};
 use pcm_bus::{BusOf, silent_ring};
 use pcm_desk::{Device, Here};
-use pcm_feeder::{Feeder, RackOf, RacksOf, Tables};
+use pcm_feeder::{Feeder, RacksOf, Tables};
 use pcm_fixed::Fixed;
 use pcm_format::Settings;
 use pcm_group::Groups;
@@ -106,9 +102,15 @@ impl<B: Feeder> ParentOf<B> {
         let mut recording = playing.split_off(SLOTS)?;
         let bus = BusOf::new(alloc, device, tables, recording.pop().unwrap())?;
         let mapped = playing.split_off(device.play_slots as usize)?;
-        let channels = free_channels(alloc, device, tables, playing)?;
-        let maps = free_maps(alloc, device, tables, mapped)?;
-        let recorders = free_recorders(alloc, device, tables, recording)?;
+        let channels = unopened(alloc, device, tables, playing, device.play_slots as usize)?;
+        let maps = unopened(alloc, device, tables, mapped, device.map_slots as usize)?;
+        let recorders = unopened(
+            alloc,
+            device,
+            tables,
+            recording,
+            device.record_slots as usize,
+        )?;
         let ring = silent_ring(alloc, device)?;
         Ok(ParentOf {
             device,
@@ -139,59 +141,12 @@ impl<B: Feeder> ParentOf<B> {
         ensures output { KeepsOutput self.old self.new }
         ensures refused { OnErr result (self.new ≡ self.old) }
     {
+        let first = self.number_of(way, 0);
         match way {
-            Way::Play => self.open_play(tables, settings),
-            Way::Record => self.open_record(tables, settings),
-            Way::Map => self.open_map(tables, settings),
+            Way::Play => open_in(&mut self.channels, first, tables, settings),
+            Way::Record => open_in(&mut self.recorders, first, tables, settings),
+            Way::Map => open_in(&mut self.maps, first, tables, settings),
         }
-    }
-
-    // An opening that plays begins in the least free slot.
-    fn open_play(&mut self, tables: &Tables, settings: Settings) -> Result<usize, Errno>
-        requires rate { IsRate settings.rate }
-        requires own { PlayAreOf self.old.device (play_channels self.old) }
-        requires ready { All (IsPlayReady B.kind B.kept tables.now) (play_channels self.old) }
-        ensures opens { OpensPlay B.kind B.kept tables.now settings self.old self.new result }
-        ensures output { KeepsOutput self.old self.new }
-        ensures refused { OnErr result (self.new ≡ self.old) }
-    {
-        let Some(slot) = self.least_free_play() else {
-            return Err(Errno::Busy);
-        };
-        self.channels[slot].begin(tables, settings);
-        Ok(slot)
-    }
-
-    // An opening that records begins in the least free slot.
-    fn open_record(&mut self, tables: &Tables, settings: Settings) -> Result<usize, Errno>
-        requires rate { IsRate settings.rate }
-        requires own { RecordAreOf self.old.device (record_channels self.old) }
-        requires ready { All (IsRecordReady B.kind B.kept tables.now) (record_channels self.old) }
-        ensures opens { OpensRecord B.kind B.kept tables.now settings self.old self.new result }
-        ensures output { KeepsOutput self.old self.new }
-        ensures refused { OnErr result (self.new ≡ self.old) }
-    {
-        let Some(slot) = self.least_free_record() else {
-            return Err(Errno::Busy);
-        };
-        self.recorders[slot].begin(tables, settings);
-        Ok(slot)
-    }
-
-    // A mapped opening begins in the least free slot.
-    fn open_map(&mut self, tables: &Tables, settings: Settings) -> Result<usize, Errno>
-        requires rate { IsRate settings.rate }
-        requires own { MapAreOf self.old.device (map_channels self.old) }
-        requires ready { All (IsMapReady B.kind B.kept tables.now) (map_channels self.old) }
-        ensures opens { OpensMap B.kind B.kept tables.now settings self.old self.new result }
-        ensures output { KeepsOutput self.old self.new }
-        ensures refused { OnErr result (self.new ≡ self.old) }
-    {
-        let Some(slot) = self.least_free_map() else {
-            return Err(Errno::Busy);
-        };
-        self.maps[slot].begin(tables, settings);
-        Ok(self.device.play_slots as usize + slot)
     }
 
     /// The number of a slot, by its place among those of its way.
@@ -393,102 +348,6 @@ impl<B: Feeder> ParentOf<B> {
             passed: self.passed,
         }
     }
-
-    // The least slot whose channel is free, if there is one.
-    fn least_free_play(&self) -> Option<usize>
-        ensures slot { result
-            ≡ position (λ channel. is_play_free channel.book.state) (play_channels self.now) }
-        ensures within { IfSome result (λ slot. slot < fixed_len self.now.channels) }
-    {
-        self.channels.iter().position(|channel| channel.is_free())
-    }
-
-    // The least slot for recording whose channel is free, if there is one.
-    fn least_free_record(&self) -> Option<usize>
-        ensures slot { result
-            ≡ position (λ channel. is_record_free channel.book.state) (record_channels self.now) }
-        ensures within { IfSome result (λ slot. slot < fixed_len self.now.recorders) }
-    {
-        self.recorders.iter().position(|channel| channel.is_free())
-    }
-
-    // The least slot for a mapped channel that is free, if there is one.
-    fn least_free_map(&self) -> Option<usize>
-        ensures slot { result
-            ≡ position (λ channel. is_map_free channel.book.state) (map_channels self.now) }
-        ensures within { IfSome result (λ slot. slot < fixed_len self.now.maps) }
-    {
-        self.maps.iter().position(|channel| channel.is_free())
-    }
-}
-
-// The channels of a device, which nobody has opened, with the first racks.
-fn free_channels<B: Feeder>(
-    alloc: Global,
-    device: Device,
-    tables: &Tables,
-    racks: Vec<RackOf<B>>,
-) -> Result<Vec<PlayChannelOf<B>>, AllocError>
-    requires device { HasRates device }
-    requires enough { device.play_slots ≤ vec_len racks }
-    requires kinds { AreRacks B.kind racks.items }
-    ensures slots { IfOk result (λ made. length made.items ≡ device.play_slots) }
-    ensures boxes { IfOk result (λ made. play_marks B.mark made.items ≡ rack_marks B.mark (take device.play_slots racks.items)) }
-    ensures channels { IfOk result (λ made. All (IsPlayUnopened B.kind B.kept tables.now device) made.items) }
-{
-    let mut racks = racks;
-    racks.truncate(device.play_slots as usize);
-    let mut channels = Vec::new(alloc);
-    for rack in racks {
-        channels.push(PlayChannelOf::new(alloc, device, tables, rack)?)?;
-    }
-    Ok(channels)
-}
-
-// The channels of a device that record, which nobody has opened, with the first racks.
-fn free_recorders<B: Feeder>(
-    alloc: Global,
-    device: Device,
-    tables: &Tables,
-    racks: Vec<RackOf<B>>,
-) -> Result<Vec<RecordChannelOf<B>>, AllocError>
-    requires device { HasRates device }
-    requires enough { device.record_slots ≤ vec_len racks }
-    requires kinds { AreRacks B.kind racks.items }
-    ensures slots { IfOk result (λ made. length made.items ≡ device.record_slots) }
-    ensures boxes { IfOk result (λ made. record_marks B.mark made.items ≡ rack_marks B.mark (take device.record_slots racks.items)) }
-    ensures channels { IfOk result (λ made. All (IsRecordUnopened B.kind B.kept tables.now device) made.items) }
-{
-    let mut racks = racks;
-    racks.truncate(device.record_slots as usize);
-    let mut channels = Vec::new(alloc);
-    for rack in racks {
-        channels.push(RecordChannelOf::new(alloc, device, tables, rack)?)?;
-    }
-    Ok(channels)
-}
-
-// The mapped channels of a device, which nobody has opened, with the first racks.
-fn free_maps<B: Feeder>(
-    alloc: Global,
-    device: Device,
-    tables: &Tables,
-    racks: Vec<RackOf<B>>,
-) -> Result<Vec<MapChannelOf<B>>, AllocError>
-    requires device { HasRates device }
-    requires enough { device.map_slots ≤ vec_len racks }
-    requires kinds { AreRacks B.kind racks.items }
-    ensures slots { IfOk result (λ made. length made.items ≡ device.map_slots) }
-    ensures boxes { IfOk result (λ made. map_marks B.mark made.items ≡ rack_marks B.mark (take device.map_slots racks.items)) }
-    ensures channels { IfOk result (λ made. All (IsMapUnopened B.kind B.kept tables.now device) made.items) }
-{
-    let mut racks = racks;
-    racks.truncate(device.map_slots as usize);
-    let mut channels = Vec::new(alloc);
-    for rack in racks {
-        channels.push(MapChannelOf::new(alloc, device, tables, rack)?)?;
-    }
-    Ok(channels)
 }
 
 /// A parent whose channels have boxes.

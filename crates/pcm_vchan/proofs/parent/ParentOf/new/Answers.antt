@@ -10,7 +10,10 @@ use Rattle.pcm_desk.proofs.Passing.{passed-none}
 use Rattle.pcm_play.specs.Channels.{IsPlayUnopened}
 use Rattle.pcm_record.specs.Channels.{IsRecordUnopened}
 use Rattle.pcm_map.specs.Channels.{IsMapUnopened}
-use Rattle.pcm_vchan.specs.Racks.{map_marks, play_marks, record_marks}
+use Rattle.pcm_play.specs.declared.channel.PlayChannelOf.{PlayChannelOf}
+use Rattle.pcm_record.specs.declared.channel.RecordChannelOf.{RecordChannelOf}
+use Rattle.pcm_map.specs.declared.channel.MapChannelOf.{MapChannelOf}
+use Rattle.pcm_vchan.specs.Racks.{channel_marks}
 use Rattle.pcm_vchan.proofs.Racks.{drop_length, part-of-first}
 use Rattle.pcm_vchan.proofs.parent.ParentOf.new.Goals as goal
 
@@ -33,23 +36,23 @@ new-requires-clause-kinds g c =
 pub split_off-requires-2 : goal.split_off-requires-2
 split_off-requires-2 g c = omega (arith, c.in_ok-recording.ensures.len, c.requires.limits.slots)
 
-pub free_channels-requires-clause-kinds : goal.free_channels-requires-clause-kinds
-free_channels-requires-clause-kinds g c =
+pub unopened-requires-clause-kinds : goal.unopened-requires-clause-kinds
+unopened-requires-clause-kinds g c =
     let first : AreRacks g.B.Feeder.kind c.split_off.new.self.items =
     subst (AreRacks g.B.Feeder.kind) (sym c.in_ok-recording.ensures.items) (All-take (IsRack g.B.Feeder.kind) 16 c.into_list-playing.result.items (c.into_list-playing.ensures.kinds c.requires.kinds)) in
     subst (AreRacks g.B.Feeder.kind) (sym c.in_ok-mapped.ensures.items) (All-take (IsRack g.B.Feeder.kind) c.args.device.play_slots c.split_off.new.self.items first)
 
-pub free_maps-requires-clause-enough : goal.free_maps-requires-clause-enough
-free_maps-requires-clause-enough g c = omega (arith, c.in_ok-recording.ensures.len, c.in_ok-mapped.ensures.tail_len, c.requires.limits.slots)
+pub unopened-requires-2-clause-enough : goal.unopened-requires-2-clause-enough
+unopened-requires-2-clause-enough g c = omega (arith, c.in_ok-recording.ensures.len, c.in_ok-mapped.ensures.tail_len, c.requires.limits.slots)
 
-pub free_maps-requires-clause-kinds : goal.free_maps-requires-clause-kinds
-free_maps-requires-clause-kinds g c =
+pub unopened-requires-2-clause-kinds : goal.unopened-requires-2-clause-kinds
+unopened-requires-2-clause-kinds g c =
     let first : AreRacks g.B.Feeder.kind c.split_off.new.self.items =
     subst (AreRacks g.B.Feeder.kind) (sym c.in_ok-recording.ensures.items) (All-take (IsRack g.B.Feeder.kind) 16 c.into_list-playing.result.items (c.into_list-playing.ensures.kinds c.requires.kinds)) in
     subst (AreRacks g.B.Feeder.kind) (sym c.in_ok-mapped.ensures.tail) (All-drop (IsRack g.B.Feeder.kind) c.args.device.play_slots c.split_off.new.self.items first)
 
-pub free_recorders-requires-clause-kinds : goal.free_recorders-requires-clause-kinds
-free_recorders-requires-clause-kinds g c =
+pub unopened-requires-3-clause-kinds : goal.unopened-requires-3-clause-kinds
+unopened-requires-3-clause-kinds g c =
     let all : AreRacks g.B.Feeder.kind c.in_ok-recording.recording.items =
     subst (AreRacks g.B.Feeder.kind) (sym c.in_ok-recording.ensures.tail) (All-drop (IsRack g.B.Feeder.kind) 16 c.into_list-playing.result.items (c.into_list-playing.ensures.kinds c.requires.kinds)) in
     before (IsRack g.B.Feeder.kind) c.pop.new.self.items (option_to_list c.pop.result) (subst (AreRacks g.B.Feeder.kind) c.pop.ensures.items all)
@@ -97,13 +100,13 @@ returns-clause-racks g c =
     sym tail ∙ c.pop.ensures.items ∙ ap (λ last. front ++ option_to_list last) c.unwrap.ensures in
     let sixteen : length front ≡ 16 = omega (arith, ap length parted, length-append front (c.unwrap.result ∷ []), length-drop 16 racks, ap length whole, c.into_list-playing.ensures.count) in
     record {
-      playing = ap (play_marks mark) c.new-2.ensures.items ∙ c.in_ok-channels.ensures.boxes
+      playing = ap (channel_marks (λ (channel : PlayChannelOf _). channel.path) mark) c.new-2.ensures.items ∙ c.in_ok-channels.ensures.boxes
           ∙ ap (λ list. rack_marks mark (take p list)) (c.in_ok-mapped.ensures.items ∙ ap (take p) first)
           ∙ ap (rack_marks mark) (take-take p p (take 16 racks) (omega arith) ∙ take-take p 16 racks (omega (arith, c.requires.limits.slots)));
-      mapped = ap (map_marks mark) c.new-4.ensures.items ∙ c.in_ok-maps.ensures.boxes
+      mapped = ap (channel_marks (λ (channel : MapChannelOf _). channel.path) mark) c.new-4.ensures.items ∙ c.in_ok-maps.ensures.boxes
           ∙ ap (λ list. rack_marks mark (take device.map_slots list)) (c.in_ok-mapped.ensures.tail ∙ ap (drop p) first)
           ∙ ap (rack_marks mark) (part-of-first p device.map_slots 16 racks c.requires.limits.slots);
-      recording = ap (record_marks mark) c.new-3.ensures.items ∙ c.in_ok-recorders.ensures.boxes
+      recording = ap (channel_marks (λ (channel : RecordChannelOf _). channel.path) mark) c.new-3.ensures.items ∙ c.in_ok-recorders.ensures.boxes
           ∙ ap (rack_marks mark) (sym (take-append-le device.record_slots front (c.unwrap.result ∷ []) (omega (arith, sixteen, c.requires.limits.recorders))) ∙ ap (take device.record_slots) (sym parted));
       bus = ap (λ marks. marks ∷ []) c.in_ok-bus.ensures.boxes
           ∙ ap (rack_marks mark) (sym (drop_length front (c.unwrap.result ∷ []) 16 sixteen) ∙ ap (drop 16) (sym parted) ∙ drop-drop 16 16 racks);
