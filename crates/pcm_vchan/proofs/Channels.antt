@@ -79,20 +79,22 @@ ready-after kind kept filters more frames old new same each ready = λ slot othe
     let there : slot < length old = omega arith in
     ready-moved kind kept filters more frames (get_or old slot other) (get_or new slot other) (each slot other there) (ready slot other there)
 
--- the books after an interrupt
+-- the books once each of them changed by `how`
+books-changed : {C Book : Type 0} (book : C → Book) (how : Book → Book) (old new : List C) → length new ≡ length old → Each (λ before after. book after ≡ how (book before)) old new → map book new ≡ map how (map book old)
+books-changed book how old new same each =
+    same_lists (map book new) (map how (map book old))
+    (length-map new book ∙ same ∙ sym (length-map (map book old) how ∙ length-map old book))
+    (λ k d within.
+    let there : k < length new = omega (arith, length-map new book) in
+    let before : k < length old = omega arith in
+    let listed : k < length (map book old) = omega (arith, length-map old book) in
+    let other = some_channel old k before in
+    get_or-map book new k other d there ∙ each k other before ∙ ap how (sym (get_or-map book old k other d before)) ∙ sym (get_or-map how (map book old) k d d listed))
+
+-- so it is after an interrupt
 pub play_books_of-passed : {B : Type 0} (device : DeviceSeen) (handed n : ℕ) (old new : List (PlayChannelOf B)) → length new ≡ length old → Each (Passes device handed n) old new
     → play_books_of new ≡ map (play_passing device handed n) (play_books_of old)
-play_books_of-passed {B = B} device handed n old new same each =
-    let passing : PlayBook → PlayBook = play_passing device handed n in
-    same_lists (play_books_of new) (map passing (play_books_of old))
-    (length-map new (λ (c : PlayChannelOf B). c.book) ∙ same ∙ sym (length-map (play_books_of old) passing ∙ length-map old (λ (c : PlayChannelOf B). c.book)))
-    (λ k d within.
-    let there : k < length new = omega (arith, length-map new (λ (c : PlayChannelOf B). c.book)) in
-    let before : k < length old = omega arith in
-    let listed : k < length (play_books_of old) = omega (arith, length-map old (λ (c : PlayChannelOf B). c.book)) in
-    let other : PlayChannelOf B = some_channel old k before in
-    get_or-map (λ (c : PlayChannelOf B). c.book) new k other d there ∙ each k other before
-    ∙ ap passing (sym (get_or-map (λ (c : PlayChannelOf B). c.book) old k other d before)) ∙ sym (get_or-map passing (play_books_of old) k d d listed))
+play_books_of-passed {B = B} device handed n = books-changed (λ (channel : PlayChannelOf B). channel.book) (play_passing device handed n)
 
 -- ---- channels that record
 
@@ -118,16 +120,7 @@ record-ready-moved kind kept filters input keeps old new m r = record {
 -- their books after an interrupt
 pub record_books_of-captured : {B : Type 0} (device : DeviceSeen) (n : ℕ) (old new : List (RecordChannelOf B)) → length new ≡ length old → Each (λ (o : RecordChannelOf B) (c : RecordChannelOf B). c.book ≡ capturing device n o.book) old new
     → record_books_of new ≡ map (capturing device n) (record_books_of old)
-record_books_of-captured {B = B} device n old new same each =
-    same_lists (record_books_of new) (map (capturing device n) (record_books_of old))
-    (length-map new (λ (c : RecordChannelOf B). c.book) ∙ same ∙ sym (length-map (record_books_of old) (capturing device n) ∙ length-map old (λ (c : RecordChannelOf B). c.book)))
-    (λ k d within.
-    let there : k < length new = omega (arith, length-map new (λ (c : RecordChannelOf B). c.book)) in
-    let before : k < length old = omega arith in
-    let listed : k < length (record_books_of old) = omega (arith, length-map old (λ (c : RecordChannelOf B). c.book)) in
-    let other : RecordChannelOf B = some_channel old k before in
-    get_or-map (λ (c : RecordChannelOf B). c.book) new k other d there ∙ each k other before
-    ∙ ap (capturing device n) (sym (get_or-map (λ (c : RecordChannelOf B). c.book) old k other d before)) ∙ sym (get_or-map (capturing device n) (record_books_of old) k d d listed))
+record_books_of-captured {B = B} device n = books-changed (λ (channel : RecordChannelOf B). channel.book) (capturing device n)
 
 -- ---- mapped channels
 
@@ -171,17 +164,7 @@ map-keeps-nothing kind kept filters channel =
 -- their books after an interrupt
 pub map_books_of-passed : {B : Type 0} (device : DeviceSeen) (handed n : ℕ) (old new : List (MapChannelOf B)) → length new ≡ length old → Each (λ (o : MapChannelOf B) (c : MapChannelOf B). c.book ≡ map_passing device handed n o.book) old new
     → map_books_of new ≡ map (map_passing device handed n) (map_books_of old)
-map_books_of-passed {B = B} device handed n old new same each =
-    let passing : MapBook → MapBook = map_passing device handed n in
-    same_lists (map_books_of new) (map passing (map_books_of old))
-    (length-map new (λ (c : MapChannelOf B). c.book) ∙ same ∙ sym (length-map (map_books_of old) passing ∙ length-map old (λ (c : MapChannelOf B). c.book)))
-    (λ k d within.
-    let there : k < length new = omega (arith, length-map new (λ (c : MapChannelOf B). c.book)) in
-    let before : k < length old = omega arith in
-    let listed : k < length (map_books_of old) = omega (arith, length-map old (λ (c : MapChannelOf B). c.book)) in
-    let other : MapChannelOf B = some_channel old k before in
-    get_or-map (λ (c : MapChannelOf B). c.book) new k other d there ∙ each k other before
-    ∙ ap passing (sym (get_or-map (λ (c : MapChannelOf B). c.book) old k other d before)) ∙ sym (get_or-map passing (map_books_of old) k d d listed))
+map_books_of-passed {B = B} device handed n = books-changed (λ (channel : MapChannelOf B). channel.book) (map_passing device handed n)
 
 -- ---- a parent
 

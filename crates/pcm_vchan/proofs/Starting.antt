@@ -1,5 +1,5 @@
 -- The channels of a device once a group has started.
-use Rattle.std.proofs.Common.{◌≡◌, ℕ, ◌+◌, ◌<◌, ◌≤◌, Bool, true, false, cond, List, [], ◌∷◌, length, drop, get_or, refl, sym, ap, ◌∙◌, arith}
+use Rattle.std.proofs.Common.{◌≡◌, ℕ, ◌+◌, ◌<◌, ◌≤◌, Bool, true, false, cond, List, [], ◌∷◌, length, map, drop, get_or, refl, sym, ap, ◌∙◌, arith}
 use Rattle.std.specs.Prelude.{not, ◌&&◌, ◌||◌}
 use Rattle.std.proofs.Math.ListN.{drop_of_length-le}
 use Rattle.std.proofs.lemmas.List.{get_or-map, length-map, same_lists}
@@ -11,27 +11,19 @@ use Rattle.pcm_group.proofs.Members.{all_in-drop, get_or-change_in, length-chang
 use Rattle.pcm_desk.specs.declared.here.Here.{Here}
 use Rattle.pcm_desk.specs.declared.device.Device.{Device}
 use Rattle.pcm_desk.specs.declared.play_book.PlayBook.{PlayBook}
-use Rattle.pcm_desk.specs.declared.record_book.RecordBook.{RecordBook}
 use Rattle.pcm_desk.specs.Device.{seen}
 use Rattle.pcm_desk.specs.PlayBooks.{play_is_ready}
-use Rattle.pcm_desk.specs.Channels.{play_starting, record_starting}
+use Rattle.pcm_desk.specs.Channels.{play_starting}
 use Rattle.pcm_play.specs.declared.channel.PlayChannelOf.{PlayChannelOf}
 use Rattle.pcm_play.proofs.Moving.{moves-nothing}
-use Rattle.pcm_record.specs.declared.channel.RecordChannelOf.{RecordChannelOf}
-use Rattle.pcm_record.proofs.Moving as recorders
-use Rattle.pcm_bus.specs.Slots.{PlayAreOf, play_books_of}
-use Rattle.pcm_vchan.specs.Slots.{RecordAreOf, record_books_of}
-use Rattle.pcm_vchan.specs.Starts.{EachAt, Records, Starts, is_in}
+use Rattle.pcm_bus.specs.Slots.{play_books_of}
+use Rattle.pcm_vchan.specs.Starts.{EachAt, Starts, is_in}
 use Rattle.pcm_bus.proofs.Channels.{some_channel}
 
 -- a channel that is no member
 pub starts-none : {B : Type 0} (kind : B → Kind) (kept : B → Kept) (filters : Filters) (here : Here) (member : Bool) (channel : PlayChannelOf B) → member ≡ false → Starts kind kept filters here member channel channel
 starts-none kind kept filters here true channel e = cc
 starts-none kind kept filters here false channel e = record { device_same = refl; book = refl; moves = moves-nothing kind kept filters [] 0 channel }
-
-pub records-none : {B : Type 0} (kind : B → Kind) (kept : B → Kept) (filters : Filters) (member : Bool) (channel : RecordChannelOf B) → member ≡ false → Records kind kept filters member channel channel
-records-none kind kept filters true channel e = cc
-records-none kind kept filters false channel e = record { device_same = refl; book = refl; moves = recorders.moves-nothing kind kept filters [] 0 channel }
 
 -- whether all members from one slot on are ready, by that one and those after it
 pub ready-step : {B : Type 0} (group : ℕ) (slots : List ℕ) (channels : List (PlayChannelOf B)) (slot : ℕ) (channel : PlayChannelOf B) → 0 < group → slot < length channels → channel ≡ get_or channels slot channel
@@ -54,54 +46,23 @@ ready-end group n slots books past = ap (all_in group play_is_ready (drop n slot
 
 -- ---- the books then
 
-either_device : {B : Type 0} (filters : Filters) (here : Here) (device : Device) (member : Bool) (old new : PlayChannelOf B) → old.path.device ≡ device → new.book ≡ cond member (play_starting (seen filters old.path.device) here old.book) old.book
-    → new.book ≡ cond member (play_starting (seen filters device) here old.book) old.book
-either_device filters here device member old new own is = is ∙ ap (λ (d : Device). cond member (play_starting (seen filters d) here old.book) old.book) own
-
-pub play_books_of-started : {B : Type 0} (kind : B → Kind) (kept : B → Kept) (filters : Filters) (here : Here) (device : Device) (group : ℕ) (slots : List ℕ) (old new : List (PlayChannelOf B)) → 0 < group → length new ≡ length old → PlayAreOf device old
-    → EachAt (λ (slot : ℕ). Starts kind kept filters here (is_in slots group slot)) old new
-    → play_books_of new ≡ change_in group (play_starting (seen filters device) here) slots (play_books_of old)
-play_books_of-started {B = B} kind kept filters here device group slots old new some same own each =
-    let starting : PlayBook → PlayBook = play_starting (seen filters device) here in
-    let books : List PlayBook = play_books_of old in
-    same_lists (play_books_of new) (change_in group starting slots books)
-    (length-map new (λ (c : PlayChannelOf B). c.book) ∙ same ∙ sym (length-change_in group starting slots books ∙ length-map old (λ (c : PlayChannelOf B). c.book)))
+pub books-started : {C Book : Type 0} (book : C → Book) (starting : Book → Book) (group : ℕ) (slots : List ℕ) (old new : List C) → 0 < group → length new ≡ length old
+    → EachAt (λ slot before after. book after ≡ cond (is_in slots group slot) (starting (book before)) (book before)) old new
+    → map book new ≡ change_in group starting slots (map book old)
+books-started {Book = Book} book starting group slots old new some same each =
+    let books = map book old in
+    same_lists (map book new) (change_in group starting slots books)
+    (length-map new book ∙ same ∙ sym (length-change_in group starting slots books ∙ length-map old book))
     (λ k d within.
-    let there : k < length new = omega (arith, length-map new (λ (c : PlayChannelOf B). c.book)) in
+    let there : k < length new = omega (arith, length-map new book) in
     let before : k < length old = omega arith in
-    let listed : k < length books = omega (arith, length-map old (λ (c : PlayChannelOf B). c.book)) in
-    let other : PlayChannelOf B = some_channel old k before in
-    get_or-map (λ (c : PlayChannelOf B). c.book) new k other d there
-    ∙ either_device filters here device (is_in slots group k) (get_or old k other) (get_or new k other) (own k other before) (each k other before).book
-    ∙ ap (λ (b : PlayBook). cond (is_in slots group k) (starting b) b) (sym (get_or-map (λ (c : PlayChannelOf B). c.book) old k other d before))
+    let listed : k < length books = omega (arith, length-map old book) in
+    let other = some_channel old k before in
+    get_or-map book new k other d there ∙ each k other before
+    ∙ ap (λ (b : Book). cond (is_in slots group k) (starting b) b) (sym (get_or-map book old k other d before))
     ∙ sym (get_or-change_in group starting slots books k d some listed))
 
-pub record_books_of-started : {B : Type 0} (kind : B → Kind) (kept : B → Kept) (filters : Filters) (group : ℕ) (slots : List ℕ) (old new : List (RecordChannelOf B)) → 0 < group → length new ≡ length old
-    → EachAt (λ (slot : ℕ). Records kind kept filters (is_in slots group slot)) old new
-    → record_books_of new ≡ change_in group record_starting slots (record_books_of old)
-record_books_of-started {B = B} kind kept filters group slots old new some same each =
-    let books : List RecordBook = record_books_of old in
-    same_lists (record_books_of new) (change_in group record_starting slots books)
-    (length-map new (λ (c : RecordChannelOf B). c.book) ∙ same ∙ sym (length-change_in group record_starting slots books ∙ length-map old (λ (c : RecordChannelOf B). c.book)))
-    (λ k d within.
-    let there : k < length new = omega (arith, length-map new (λ (c : RecordChannelOf B). c.book)) in
-    let before : k < length old = omega arith in
-    let listed : k < length books = omega (arith, length-map old (λ (c : RecordChannelOf B). c.book)) in
-    let other : RecordChannelOf B = some_channel old k before in
-    get_or-map (λ (c : RecordChannelOf B). c.book) new k other d there ∙ (each k other before).book
-    ∙ ap (λ (b : RecordBook). cond (is_in slots group k) (record_starting b) b) (sym (get_or-map (λ (c : RecordChannelOf B). c.book) old k other d before))
-    ∙ sym (get_or-change_in group record_starting slots books k d some listed))
-
--- ---- and their device
-
-pub own-started : {B : Type 0} (kind : B → Kind) (kept : B → Kept) (filters : Filters) (here : Here) (device : Device) (member : ℕ → Bool) (old new : List (PlayChannelOf B)) → length new ≡ length old → PlayAreOf device old
-    → EachAt (λ (slot : ℕ). Starts kind kept filters here (member slot)) old new → PlayAreOf device new
-own-started kind kept filters here device member old new same own each = λ slot other within.
-    let there : slot < length old = omega arith in
-    (each slot other there).device_same ∙ own slot other there
-
-pub records-own : {B : Type 0} (kind : B → Kind) (kept : B → Kept) (filters : Filters) (device : Device) (member : ℕ → Bool) (old new : List (RecordChannelOf B)) → length new ≡ length old → RecordAreOf device old
-    → EachAt (λ (slot : ℕ). Records kind kept filters (member slot)) old new → RecordAreOf device new
-records-own kind kept filters device member old new same own each = λ slot other within.
-    let there : slot < length old = omega arith in
-    (each slot other there).device_same ∙ own slot other there
+-- of those that play, whose device is one
+pub play-started : {B : Type 0} (filters : Filters) (here : Here) (device : Device) (member : Bool) (old new : PlayChannelOf B) → old.path.device ≡ device → new.book ≡ cond member (play_starting (seen filters old.path.device) here old.book) old.book
+    → new.book ≡ cond member (play_starting (seen filters device) here old.book) old.book
+play-started filters here device member old new own is = is ∙ ap (λ (d : Device). cond member (play_starting (seen filters d) here old.book) old.book) own

@@ -9,14 +9,10 @@ use Rattle.pcm_desk.specs.RecordBooks.{keeping}
 use Rattle.pcm_desk.specs.Channels.{capturing, record_rate_at}
 use Rattle.pcm_record.specs.declared.channel.RecordChannelOf.{RecordChannelOf}
 use Rattle.pcm_record.specs.Channels.{RecordMoves}
-use Rattle.pcm_bus.specs.Slots.{Each}
 
 -- its book captures n frames of the device, which are these samples
 pub record Captures {B : Type 0} (kind : B → Kind) (kept : B → Kept) (device : DeviceSeen) (n : ℕ) (samples : List ℤ) (old new : RecordChannelOf B) : Type 0 where
+  pub device_same : new.path.device ≡ old.path.device
   pub book : new.book ≡ capturing device n old.book
   pub moves : RecordMoves kind kept (filters_of device) (frames_of (channels_of (device_settings device).layout) samples)
       (keeping (record_rate_at device old.book) n old.book) old new
-
--- so it is of each
-abbrev pub AllCapture : {B : Type 0} → (B → Kind) → (B → Kept) → DeviceSeen → ℕ → List ℤ → List (RecordChannelOf B) → List (RecordChannelOf B) → Type 0
-AllCapture kind kept device n samples old new = Each (Captures kind kept device n samples) old new

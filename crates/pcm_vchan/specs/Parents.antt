@@ -33,7 +33,7 @@ use Rattle.pcm_map.specs.Channels.{IsMapReady, IsMapUnopened}
 use Rattle.pcm_vchan.specs.declared.parent.ParentOf.{ParentOf}
 use Rattle.pcm_bus.specs.Buses.{HasMadeSome, TurnsBus}
 use Rattle.pcm_bus.specs.Handovers.{IsPlannedBy}
-use Rattle.pcm_vchan.specs.Captures.{AllCapture}
+use Rattle.pcm_vchan.specs.Captures.{Captures}
 use Rattle.pcm_bus.specs.Slots.{Each, IsMapDue, IsPlayDue, MapAreOf, MapPlays, PlayAreOf, map_books_of, play_books_of}
 use Rattle.pcm_vchan.specs.Slots.{IsRecordDue, MapKeeps, Passes, RecordAreOf, record_books_of}
 use Rattle.pcm_vchan.specs.Racks.{channel_marks}
@@ -165,7 +165,7 @@ EachPasses filters n old new = Each (Passes (seen filters old.device) old.handed
 
 -- what it leaves of each that records, where it brings these samples
 abbrev pub EachCaptures : {B : Type 0} → (B → Kind) → (B → Kept) → Filters → ℕ → List ℤ → ParentOf B → ParentOf B → Type 0
-EachCaptures kind kept filters n samples old new = AllCapture kind kept (seen filters old.device) n samples (record_channels old) (record_channels new)
+EachCaptures kind kept filters n samples old new = Each (Captures kind kept (seen filters old.device) n samples) (record_channels old) (record_channels new)
 
 -- and of each mapped one
 abbrev pub EachMapPlays : {B : Type 0} → (B → Kind) → (B → Kept) → Filters → ℕ → ParentOf B → ParentOf B → Type 0

@@ -7,5 +7,6 @@ mod recorder;
 mod settler;
 mod slots;
 mod starter;
+mod walk;
 
 pub use parent::{Parent, ParentOf};

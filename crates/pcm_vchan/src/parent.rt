@@ -19,14 +19,14 @@ ghost use Rattle.pcm_desk.specs.PlayBooks.{play_is_ready};
 ghost use Rattle.pcm_bus.specs.Slots.{Each, MapAreOf, PlayAreOf};
 ghost use Rattle.pcm_vchan.specs.Slots.{slot_place, RecordAreOf, Settles};
 ghost use Rattle.pcm_play.specs.Channels.{IsPlayHere, MayEndRun};
-ghost use Rattle.pcm_vchan.specs.Starts.{EachAt, MayRecord, MayStart, Records, Starts, is_in};
 ghost use Rattle.pcm_bus.specs.Blocks.{silent_ring};
 ghost use Rattle.pcm_bus.specs.Handovers.{HasMade, IsPlannedBy};
 
-use crate::recorder::capture_all;
-use crate::settler::settle_all;
+use crate::recorder::Capture;
+use crate::settler::Settling;
 use crate::slots::{open_in, unopened};
-use crate::starter::{are_ready, start_playing, start_recording};
+use crate::starter::{GroupStart, are_ready};
+use crate::walk::walk;
 use pcm_bus::{BusOf, silent_ring};
 use pcm_desk::{Device, Here};
 use pcm_feeder::{Feeder, RacksOf, Tables};
@@ -234,33 +234,14 @@ impl<B: Feeder> ParentOf<B> {
         ensures channels { EachPlayMoves B.kind B.kept tables.now [] 0 self.old self.new }
         ensures recorders { EachRecordMoves B.kind B.kept tables.now [] 0 self.old self.new }
     {
-        self.start_players(tables, groups, group, here);
-        self.start_recorders(tables, groups, group);
-    }
-
-    // Starts each member that plays.
-    fn start_players(&mut self, tables: &Tables, groups: &Groups, group: u32, here: Here)
-        requires here { IsHere here }
-        requires due { All (MayStart B.kind tables.now here) (play_channels self.old) }
-        ensures started { EachAt (λ slot. Starts B.kind B.kept tables.now here (is_in groups.now.play group slot)) (play_channels self.old) (play_channels self.new) }
-        ensures slots { length (play_channels self.new) ≡ length (play_channels self.old) }
-        ensures recorders { self.new.recorders ≡ self.old.recorders }
-        ensures maps { self.new.maps ≡ self.old.maps }
-        ensures output { KeepsOutput self.old self.new }
-    {
-        start_playing(&mut self.channels, tables, groups, group, here);
-    }
-
-    // Starts each member that records.
-    fn start_recorders(&mut self, tables: &Tables, groups: &Groups, group: u32)
-        requires due { All (MayRecord B.kind tables.now) (record_channels self.old) }
-        ensures started { EachAt (λ slot. Records B.kind B.kept tables.now (is_in groups.now.recording group slot)) (record_channels self.old) (record_channels self.new) }
-        ensures slots { length (record_channels self.new) ≡ length (record_channels self.old) }
-        ensures channels { self.new.channels ≡ self.old.channels }
-        ensures maps { self.new.maps ≡ self.old.maps }
-        ensures output { KeepsOutput self.old self.new }
-    {
-        start_recording(&mut self.recorders, tables, groups, group);
+        let start = GroupStart {
+            tables,
+            groups,
+            group,
+            here,
+        };
+        walk(&mut self.channels, &start);
+        walk(&mut self.recorders, &start);
     }
 
     /// The device's interrupt: gives the oldest `n` frames to the device, mixes what the next ones need from all channels that play, at the
@@ -304,7 +285,13 @@ impl<B: Feeder> ParentOf<B> {
             &mut self.ring,
             out,
         );
-        capture_all(self.device, tables, &mut self.recorders, n, captured);
+        let capture = Capture {
+            tables,
+            device: self.device,
+            n,
+            captured,
+        };
+        walk(&mut self.recorders, &capture);
         self.pass(n, mixed);
     }
 
@@ -329,7 +316,7 @@ impl<B: Feeder> ParentOf<B> {
         self.mixed += mixed as u64;
         self.passed = self.device.passed(self.handed);
         let here = self.here();
-        settle_all(&mut self.channels, here);
+        walk(&mut self.channels, &Settling { here });
     }
 
     /// How many frames were mixed so far.

@@ -1,53 +1,35 @@
-//! What an interrupt brings to all channels that record, in the order of their slots.
+//! What an interrupt brings to channels that record.
 
-ghost use Rattle.std.specs.Prelude.{◌≡◌, ◌*◌, ◌<◌, ◌≤◌, length, All};
+ghost use Rattle.std.specs.Prelude.{◌≡◌, ◌*◌, ◌≤◌, length};
 ghost use Rattle.pcm_format.specs.Layouts.{channels_of};
 ghost use Rattle.pcm_desk.specs.declared.limits.TheConstants.{RING_FRAMES};
-ghost use Rattle.pcm_desk.specs.Device.{seen};
-ghost use Rattle.pcm_bus.specs.Slots.{AtSlot, ChangesAt, OthersStay};
-ghost use Rattle.pcm_vchan.specs.Slots.{IsRecordDue, RecordAreOf};
-ghost use Rattle.pcm_vchan.specs.Captures.{AllCapture, Captures};
 
+use crate::walk::Visit;
 use pcm_desk::Device;
 use pcm_feeder::{Feeder, Tables};
 use pcm_record::RecordChannelOf;
 
-/// Captures `n` frames of the device in each channel that has started.
-pub fn capture_all<B: Feeder>(
-    device: Device,
-    tables: &Tables,
-    channels: &mut [RecordChannelOf<B>],
-    n: usize,
-    captured: &[i32],
-)
-    requires few { n ≤ RING_FRAMES }
-    requires due { All (IsRecordDue B.kind B.kept tables.now device n) channels.old }
-    requires captured { length captured.now ≡ n * channels_of device.settings.layout }
-    ensures own { RecordAreOf device channels.new }
-    ensures moves { AllCapture B.kind B.kept (seen tables.now device) n captured.now channels.old channels.new }
-{
-    for slot in 0..channels.len() {
-        capture_slot(device, tables, channels, slot, n, captured);
-    }
+/// Captures `n` frames of the device, if the channel has started.
+#[derive(Clone, Copy)]
+pub(crate) struct Capture<'a> {
+    pub tables: &'a Tables,
+    pub device: Device,
+    pub n: usize,
+    pub captured: &'a [i32],
+    ghost few: { n ≤ RING_FRAMES },
+    ghost whole: { length captured.now ≡ n * channels_of device.settings.layout },
 }
 
-// Captures the frames in one channel.
-fn capture_slot<B: Feeder>(
-    device: Device,
-    tables: &Tables,
-    channels: &mut [RecordChannelOf<B>],
-    slot: usize,
-    n: usize,
-    captured: &[i32],
-)
-    requires there { slot < length channels.old }
-    requires few { n ≤ RING_FRAMES }
-    requires due { AtSlot (IsRecordDue B.kind B.kept tables.now device n) channels.old slot }
-    requires captured { length captured.now ≡ n * channels_of device.settings.layout }
-    ensures others { OthersStay slot channels.old channels.new }
-    ensures own { AtSlot (λ channel. channel.path.device ≡ device) channels.new slot }
-    ensures moves { ChangesAt (Captures B.kind B.kept (seen tables.now device) n captured.now)
-        slot channels.old channels.new }
-{
-    channels[slot].capture(tables, n, captured);
+impl<'a, B: Feeder> Visit<RecordChannelOf<B>> for Capture<'a> {
+    ghost use Rattle.pcm_desk.specs.Device.{seen};
+    ghost use Rattle.pcm_vchan.specs.Slots.{IsRecordDue};
+    ghost use Rattle.pcm_vchan.specs.Captures.{Captures};
+
+    ghost may = { λ capture. IsRecordDue B.kind B.kept capture.tables.now capture.device capture.n };
+
+    ghost leaves = { λ capture _. Captures B.kind B.kept (seen capture.tables.now capture.device) capture.n capture.captured.now };
+
+    fn visit(&self, _slot: usize, channel: &mut RecordChannelOf<B>) {
+        channel.capture(self.tables, self.n, self.captured);
+    }
 }

@@ -1,13 +1,14 @@
 //! What the start of a group starts: its members that play and those that record, in the order of their slots.
 
-ghost use Rattle.std.specs.Prelude.{◌≡◌, ◌<◌, ◌≤◌, ◌||◌, not, true, length, All};
+ghost use Rattle.std.specs.Prelude.{◌≡◌, ◌<◌, ◌≤◌, ◌||◌, not, true, length};
 ghost use Rattle.pcm_oss.specs.declared.event.TheConstants.{SLOTS};
 ghost use Rattle.pcm_group.specs.Groups.{all_in};
 ghost use Rattle.pcm_desk.specs.Here.{IsHere};
 ghost use Rattle.pcm_desk.specs.PlayBooks.{play_is_ready};
-ghost use Rattle.pcm_bus.specs.Slots.{AtSlot, ChangesAt, OthersStay, play_books_of};
-ghost use Rattle.pcm_vchan.specs.Starts.{EachAt, MayRecord, MayStart, Records, Starts, is_in};
+ghost use Rattle.pcm_bus.specs.Slots.{play_books_of};
+ghost use Rattle.pcm_vchan.specs.Starts.{MayRecord, MayStart, Records, Starts};
 
+use crate::walk::Visit;
 use pcm_desk::{Here, PLAY_BIT, RECORD_BIT};
 use pcm_feeder::{Feeder, Tables};
 use pcm_group::Groups;
@@ -40,42 +41,27 @@ fn is_ready_if<B: Feeder>(member: bool, channel: &PlayChannelOf<B>) -> bool
     !member || channel.is_ready()
 }
 
-/// Starts each member of a group that plays.
-pub fn start_playing<B: Feeder>(
-    channels: &mut [PlayChannelOf<B>],
-    tables: &Tables,
-    groups: &Groups,
-    group: u32,
-    here: Here,
-)
-    requires few { length channels.old ≤ SLOTS }
-    requires here { IsHere here }
-    requires due { All (MayStart B.kind tables.now here) channels.old }
-    ensures started { EachAt (λ slot. Starts B.kind B.kept tables.now here (is_in groups.now.play group slot)) channels.old channels.new }
-{
-    for slot in 0..channels.len() {
-        start_slot(channels, tables, groups, group, slot, here);
-    }
+/// The start of a group, where the mix and the device are: a channel of a member starts, and others stay.
+#[derive(Clone, Copy)]
+pub(crate) struct GroupStart<'a> {
+    pub tables: &'a Tables,
+    pub groups: &'a Groups,
+    pub group: u32,
+    pub here: Here,
+    ghost place: { IsHere here },
 }
 
-// Starts the channel of a slot, if it is a member.
-fn start_slot<B: Feeder>(
-    channels: &mut [PlayChannelOf<B>],
-    tables: &Tables,
-    groups: &Groups,
-    group: u32,
-    slot: usize,
-    here: Here,
-)
-    requires there { slot < length channels.old }
-    requires few { slot < SLOTS }
-    requires here { IsHere here }
-    requires due { AtSlot (MayStart B.kind tables.now here) channels.old slot }
-    ensures others { OthersStay slot channels.old channels.new }
-    ensures started { ChangesAt (Starts B.kind B.kept tables.now here (is_in groups.now.play group slot)) slot channels.old channels.new }
-{
-    if groups.of(Way::Play, slot) == group {
-        start(&mut channels[slot], tables, here);
+impl<'a, B: Feeder> Visit<PlayChannelOf<B>> for GroupStart<'a> {
+    ghost use Rattle.pcm_vchan.specs.Starts.{MayStart, Starts, is_in};
+
+    ghost may = { λ start. MayStart B.kind start.tables.now start.here };
+
+    ghost leaves = { λ start slot. Starts B.kind B.kept start.tables.now start.here (is_in start.groups.now.play start.group slot) };
+
+    fn visit(&self, slot: usize, channel: &mut PlayChannelOf<B>) {
+        if self.groups.of(Way::Play, slot) == self.group {
+            start(channel, self.tables, self.here);
+        }
     }
 }
 
@@ -89,38 +75,17 @@ fn start<B: Feeder>(channel: &mut PlayChannelOf<B>, tables: &Tables, here: Here)
     let _ = channel.ioctl(tables, START, here);
 }
 
-/// Starts each member of a group that records.
-pub fn start_recording<B: Feeder>(
-    channels: &mut [RecordChannelOf<B>],
-    tables: &Tables,
-    groups: &Groups,
-    group: u32,
-)
-    requires few { length channels.old ≤ SLOTS }
-    requires due { All (MayRecord B.kind tables.now) channels.old }
-    ensures started { EachAt (λ slot. Records B.kind B.kept tables.now (is_in groups.now.recording group slot)) channels.old channels.new }
-{
-    for slot in 0..channels.len() {
-        record_slot(channels, tables, groups, group, slot);
-    }
-}
+impl<'a, B: Feeder> Visit<RecordChannelOf<B>> for GroupStart<'a> {
+    ghost use Rattle.pcm_vchan.specs.Starts.{MayRecord, Records, is_in};
 
-// Starts the channel of a slot for recording, if it is a member.
-fn record_slot<B: Feeder>(
-    channels: &mut [RecordChannelOf<B>],
-    tables: &Tables,
-    groups: &Groups,
-    group: u32,
-    slot: usize,
-)
-    requires there { slot < length channels.old }
-    requires few { slot < SLOTS }
-    requires due { AtSlot (MayRecord B.kind tables.now) channels.old slot }
-    ensures others { OthersStay slot channels.old channels.new }
-    ensures started { ChangesAt (Records B.kind B.kept tables.now (is_in groups.now.recording group slot)) slot channels.old channels.new }
-{
-    if groups.of(Way::Record, slot) == group {
-        record(&mut channels[slot], tables);
+    ghost may = { λ start. MayRecord B.kind start.tables.now };
+
+    ghost leaves = { λ start slot. Records B.kind B.kept start.tables.now (is_in start.groups.now.recording start.group slot) };
+
+    fn visit(&self, slot: usize, channel: &mut RecordChannelOf<B>) {
+        if self.groups.of(Way::Record, slot) == self.group {
+            record(channel, self.tables);
+        }
     }
 }
 

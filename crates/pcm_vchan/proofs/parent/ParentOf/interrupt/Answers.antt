@@ -11,15 +11,13 @@ use Rattle.pcm_desk.specs.Device.{mix_frames, passed_for, seen, unfiltered}
 use Rattle.pcm_desk.specs.Channels.{mixed_by}
 use Rattle.pcm_desk.proofs.Ratios.{mixed-behind}
 use Rattle.pcm_play.specs.declared.channel.PlayChannelOf.{PlayChannelOf}
-use Rattle.pcm_record.specs.declared.channel.RecordChannelOf.{RecordChannelOf}
 use Rattle.pcm_map.specs.declared.channel.MapChannelOf.{MapChannelOf}
 use Rattle.pcm_bus.specs.Buses.{HasMadeSome, TurnsBus}
 use Rattle.pcm_bus.specs.Handovers.{IsPlannedBy}
-use Rattle.pcm_vchan.specs.Captures.{Captures}
 use Rattle.pcm_bus.specs.Slots.{AreMixed, AreTaken, Each, IsMapDue, IsPlayDue, PlayAreOf}
-use Rattle.pcm_vchan.specs.Slots.{IsRecordDue, Settles}
+use Rattle.pcm_vchan.specs.Slots.{Settles}
 use Rattle.pcm_vchan.specs.declared.parent.ParentOf.{ParentOf}
-use Rattle.pcm_vchan.specs.Parents.{here_of, map_channels, mixed_in, play_channels, record_channels, AreDue, HasRoomFor}
+use Rattle.pcm_vchan.specs.Parents.{here_of, map_channels, mixed_in, play_channels, AreDue, HasRoomFor}
 use Rattle.pcm_vchan.proofs.Channels.{ArePassed, all-passed, may-settle}
 use Rattle.pcm_vchan.proofs.Counting.{AreCounted, counted}
 use Rattle.pcm_vchan.proofs.parent.ParentOf.interrupt.Goals as goal
@@ -39,9 +37,6 @@ turn-mixed-requires-clause-maps_due g c =
     let old = c.args.self.now in
     let Due : Device → MapChannelOf _ → Type 0 = λ device. IsMapDue g.B.Feeder.kind g.B.Feeder.kept c.args.tables.now device (mixed_by (seen c.args.tables.now device) old.handed c.args.n) in
     subst (All (Due old.bus.device)) (sym c.deref_mut-2.ensures.value) (subst (λ (device : Device). All (Due device) (map_channels old)) (sym old.bus_of) c.requires.due.mapped)
-
-pub capture_all-requires-clause-due : goal.capture_all-requires-clause-due
-capture_all-requires-clause-due g c = subst (All (IsRecordDue g.B.Feeder.kind g.B.Feeder.kept c.args.tables.now c.args.self.now.device c.args.n)) (sym c.deref_mut-3.ensures.value) c.requires.due.recording
 
 -- the counts have room
 roomy : {B : Type 0} (kind : B → Kind) (kept : B → Kept) (filters : Filters) (n : ℕ) (old : ParentOf B) → 0 < n → n ≤ old.device.ring_frames → AreDue kind kept filters n old → HasRoomFor n old
@@ -133,24 +128,6 @@ returns-clause-channels g c = (passed g c).moves
 
 pub returns-clause-books : goal.returns-clause-books
 returns-clause-books g c = (passed g c).books
-
-pub returns-clause-recorders_own : goal.returns-clause-recorders_own
-returns-clause-recorders_own g c =
-    let old = c.args.self.now in
-    let same = rewritten c.capture_all.new.channels (record_channels old) (fixed_len old.recorders) (c.capture_all.auto.channels ∙ c.deref_mut-3.ensures.len) in
-    rw (c.pass.ensures.device, c.pass.ensures.recorders, same) c.capture_all.ensures.own
-
-pub returns-clause-recorders_slots : goal.returns-clause-recorders_slots
-returns-clause-recorders_slots g c =
-    let old = c.args.self.now in
-    let same = rewritten c.capture_all.new.channels (record_channels old) (fixed_len old.recorders) (c.capture_all.auto.channels ∙ c.deref_mut-3.ensures.len) in
-    rw (c.pass.ensures.recorders, same) (c.capture_all.auto.channels ∙ ap length c.deref_mut-3.ensures.value)
-
-pub returns-clause-recorders : goal.returns-clause-recorders
-returns-clause-recorders g c =
-    let old = c.args.self.now in
-    let same = rewritten c.capture_all.new.channels (record_channels old) (fixed_len old.recorders) (c.capture_all.auto.channels ∙ c.deref_mut-3.ensures.len) in
-    rw (c.pass.ensures.recorders, same) (subst (λ (before : List (RecordChannelOf _)). Each (Captures g.B.Feeder.kind g.B.Feeder.kept (seen c.args.tables.now old.device) c.args.n c.args.captured.now) before c.capture_all.new.channels) c.deref_mut-3.ensures.value c.capture_all.ensures.moves)
 
 -- and of the mapped ones
 are-taken : {B : Type 0} (kind : B → Kind) (kept : B → Kept) (filters : Filters) (mixer device : Device) (result frames : ℕ) (lent old new : List (MapChannelOf B)) → mixer ≡ device → result ≡ frames → lent ≡ old
