@@ -114,9 +114,9 @@ impl<B: Feeder> ParentOf<B> {
         let ring = silent_ring(alloc, device)?;
         Ok(ParentOf {
             device,
-            channels: Fixed::new(channels),
-            recorders: Fixed::new(recorders),
-            maps: Fixed::new(maps),
+            channels,
+            recorders,
+            maps,
             mixer: MixDev::new(),
             bus,
             ring,

@@ -1,6 +1,6 @@
 //! What the slots of one way hold, whichever way that is: a channel each, and an opening begins in the least free one.
 
-ghost use Rattle.std.specs.Prelude.{◌≡◌, ◌+◌, ◌<◌, ◌≤◌, [], length, take, vec_len, All, IfOk, IfSome, OnErr, position};
+ghost use Rattle.std.specs.Prelude.{◌≡◌, ◌+◌, ◌<◌, ◌≤◌, [], take, vec_len, All, IfOk, IfSome, OnErr, position};
 ghost use Rattle.pcm_fixed.specs.Fixed.{fixed_items, fixed_len};
 ghost use Rattle.pcm_feeder.specs.Limits.{IsRate};
 ghost use Rattle.pcm_feeder.specs.Racks.{AreRacks, IsRack, rack_marks};
@@ -24,8 +24,8 @@ use pcm_play::PlayChannelOf;
 use pcm_record::RecordChannelOf;
 use std::alloc::{AllocError, Global};
 
-// A channel, if there is memory for it.
-type Made<C> = Result<C, AllocError>;
+// What is made, if there is memory for it.
+type Made<T> = Result<T, AllocError>;
 
 /// What a slot holds: a channel of one of the ways.
 pub(crate) trait Channel<B: Feeder>: Drop {
@@ -164,20 +164,20 @@ impl<B: Feeder> Channel<B> for MapChannelOf<B> {
     }
 }
 
-/// As many channels of a device, which nobody has opened, with the first racks.
+/// The slots of a device: as many channels that nobody has opened, with the first racks.
 pub(crate) fn unopened<B: Feeder, C: Channel<B>>(
     alloc: Global,
     device: Device,
     tables: &Tables,
     racks: Vec<RackOf<B>>,
     count: usize,
-) -> Result<Vec<C>, AllocError>
+) -> Made<Fixed<C>>
     requires device { HasRates device }
     requires enough { count ≤ vec_len racks }
     requires kinds { AreRacks B.kind racks.items }
-    ensures slots { IfOk result (λ made. length made.items ≡ count) }
-    ensures boxes { IfOk result (λ made. channel_marks C.path B.mark made.items ≡ rack_marks B.mark (take count racks.items)) }
-    ensures channels { IfOk result (λ made. All (C.is_unopened tables.now device) made.items) }
+    ensures slots { IfOk result (λ made. fixed_len made ≡ count) }
+    ensures boxes { IfOk result (λ made. channel_marks C.path B.mark (fixed_items made) ≡ rack_marks B.mark (take count racks.items)) }
+    ensures channels { IfOk result (λ made. All (C.is_unopened tables.now device) (fixed_items made)) }
 {
     let mut racks = racks;
     racks.truncate(count);
@@ -185,7 +185,7 @@ pub(crate) fn unopened<B: Feeder, C: Channel<B>>(
     for rack in racks {
         channels.push(C::new(alloc, device, tables, rack)?)?;
     }
-    Ok(channels)
+    Ok(Fixed::new(channels))
 }
 
 /// An opening begins in the least free slot. Answers the number of this slot, where they are numbered from `first` on.

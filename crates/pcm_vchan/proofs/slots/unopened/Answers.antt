@@ -44,5 +44,6 @@ loop-rack-preserved g c =
 
 pub returns-clause-boxes : goal.returns-clause-boxes
 returns-clause-boxes g c =
-    none-left (λ (rack : RackOf _). marks_of g.B.Feeder.mark (boxes_of rack)) (channel_marks g.C.Channel.path g.B.Feeder.mark c.loop-rack.channels.items) _ c.loop-rack.rack-iterator.rest.items
+    ap (channel_marks g.C.Channel.path g.B.Feeder.mark) c.new-2.ensures.items
+    ∙ none-left (λ (rack : RackOf _). marks_of g.B.Feeder.mark (boxes_of rack)) (channel_marks g.C.Channel.path g.B.Feeder.mark c.loop-rack.channels.items) _ c.loop-rack.rack-iterator.rest.items
     (omega (arith, c.in-None.ensures.steps.0, c.loop-rack.rack-iterator.rest.ok.0)) c.loop-rack.invariant.boxes

@@ -1,37 +1,21 @@
-use Rattle.std.proofs.Common.{◌≡◌, List, arith, [], ◌∷◌, ◌++◌, length, take, drop, w64, sym, ap, ◌∙◌, subst}
+use Rattle.std.proofs.Common.{◌≡◌, arith, [], ◌∷◌, ◌++◌, length, take, drop, w64, sym, ap, ◌∙◌, subst}
 use Rattle.std.proofs.lemmas.Int.{ints, to_z-of_z}
-use Rattle.std.specs.Prelude.{All}
+use Rattle.std.specs.Prelude.{IfSome, Option}
 use Rattle.std.specs.Option.{option_to_list}
 use Rattle.std.proofs.lemmas.List.{drop-drop, length-append, length-drop, take-append-le, take-take}
-use Rattle.std.proofs.lemmas.List.Elements.{All-cons, All-head, All-nil, All-tail, All-take, All-drop}
+use Rattle.std.proofs.lemmas.List.Elements.{All-pop, All-take, All-drop}
+use Rattle.pcm_feeder.specs.declared.rack.RackOf.{RackOf}
 use Rattle.pcm_feeder.specs.Racks.{AreRacks, IsRack, list_of, rack_marks}
 use Rattle.pcm_desk.specs.Device.{unfiltered}
 use Rattle.pcm_desk.proofs.Passing.{passed-none}
-use Rattle.pcm_play.specs.Channels.{IsPlayUnopened}
-use Rattle.pcm_record.specs.Channels.{IsRecordUnopened}
-use Rattle.pcm_map.specs.Channels.{IsMapUnopened}
-use Rattle.pcm_play.specs.declared.channel.PlayChannelOf.{PlayChannelOf}
-use Rattle.pcm_record.specs.declared.channel.RecordChannelOf.{RecordChannelOf}
-use Rattle.pcm_map.specs.declared.channel.MapChannelOf.{MapChannelOf}
-use Rattle.pcm_vchan.specs.Racks.{channel_marks}
 use Rattle.pcm_vchan.proofs.Racks.{drop_length, part-of-first}
 use Rattle.pcm_vchan.proofs.parent.ParentOf.new.Goals as goal
-
--- what holds of all elements holds of those before some, and of those after
-before : {X : Type 0} (P : X → Type 0) (xs ys : List X) → All P (xs ++ ys) → All P xs
-before P [] ys all = All-nil P
-before P (x ∷ xs) ys all = All-cons P x xs (All-head P x (xs ++ ys) all) (before P xs ys (All-tail P x (xs ++ ys) all))
-
-behind : {X : Type 0} (P : X → Type 0) (xs ys : List X) → All P (xs ++ ys) → All P ys
-behind P [] ys all = all
-behind P (x ∷ xs) ys all = behind P xs ys (All-tail P x (xs ++ ys) all)
 
 pub new-requires-clause-kinds : goal.new-requires-clause-kinds
 new-requires-clause-kinds g c =
     let all : AreRacks g.B.Feeder.kind c.in_ok-recording.recording.items =
     subst (AreRacks g.B.Feeder.kind) (sym c.in_ok-recording.ensures.tail) (All-drop (IsRack g.B.Feeder.kind) 16 c.into_list-playing.result.items (c.into_list-playing.ensures.kinds c.requires.kinds)) in
-    let parted = c.pop.ensures.items ∙ ap (λ last. c.pop.new.self.items ++ option_to_list last) c.unwrap.ensures in
-    All-head (IsRack g.B.Feeder.kind) c.unwrap.result [] (behind (IsRack g.B.Feeder.kind) c.pop.new.self.items (c.unwrap.result ∷ []) (subst (AreRacks g.B.Feeder.kind) parted all))
+    subst (λ (last : Option (RackOf _)). IfSome last (IsRack g.B.Feeder.kind)) c.unwrap.ensures (All-pop (IsRack g.B.Feeder.kind) c.in_ok-recording.recording.items c.pop.new.self.items c.pop.result c.pop.ensures.items all).1
 
 pub split_off-requires-2 : goal.split_off-requires-2
 split_off-requires-2 g c = omega (arith, c.in_ok-recording.ensures.len, c.requires.limits.slots)
@@ -55,7 +39,7 @@ pub unopened-requires-3-clause-kinds : goal.unopened-requires-3-clause-kinds
 unopened-requires-3-clause-kinds g c =
     let all : AreRacks g.B.Feeder.kind c.in_ok-recording.recording.items =
     subst (AreRacks g.B.Feeder.kind) (sym c.in_ok-recording.ensures.tail) (All-drop (IsRack g.B.Feeder.kind) 16 c.into_list-playing.result.items (c.into_list-playing.ensures.kinds c.requires.kinds)) in
-    before (IsRack g.B.Feeder.kind) c.pop.new.self.items (option_to_list c.pop.result) (subst (AreRacks g.B.Feeder.kind) c.pop.ensures.items all)
+    (All-pop (IsRack g.B.Feeder.kind) c.in_ok-recording.recording.items c.pop.new.self.items c.pop.result c.pop.ensures.items all).0
 
 pub invariant_of-result : goal.invariant_of-result
 invariant_of-result g c =
@@ -64,26 +48,14 @@ invariant_of-result g c =
       bus_of = c.in_ok-bus.ensures.device;
       passed_is = to_z-of_z w64 c.passed.result (record { sfits = c.passed.type_inv }) ∙ c.passed.ensures;
       within = c.requires.limits.ring;
-      slots = c.new-2.ensures.len ∙ c.in_ok-channels.channels.ok.0 ∙ c.in_ok-channels.ensures.slots;
-      maps_count = c.new-4.ensures.len ∙ c.in_ok-maps.maps.ok.0 ∙ c.in_ok-maps.ensures.slots;
+      slots = c.in_ok-channels.ensures.slots;
+      maps_count = c.in_ok-maps.ensures.slots;
       slots_within = c.requires.limits.slots;
-      recorders_count = c.new-3.ensures.len ∙ c.in_ok-recorders.recorders.ok.0 ∙ c.in_ok-recorders.ensures.slots;
+      recorders_count = c.in_ok-recorders.ensures.slots;
       recorders_within = c.requires.limits.recorders;
       size = c.in_ok-ring.ensures.size;
       full = c.in_ok-ring.ensures.full;
     }
-
-pub returns-clause-channels : goal.returns-clause-channels
-returns-clause-channels g c =
-    subst (All (IsPlayUnopened g.B.Feeder.kind g.B.Feeder.kept c.args.tables.now c.args.device)) (sym c.new-2.ensures.items) c.in_ok-channels.ensures.channels
-
-pub returns-clause-recording : goal.returns-clause-recording
-returns-clause-recording g c =
-    subst (All (IsRecordUnopened g.B.Feeder.kind g.B.Feeder.kept c.args.tables.now c.args.device)) (sym c.new-3.ensures.items) c.in_ok-recorders.ensures.channels
-
-pub returns-clause-mapped : goal.returns-clause-mapped
-returns-clause-mapped g c =
-    subst (All (IsMapUnopened g.B.Feeder.kind g.B.Feeder.kept c.args.tables.now c.args.device)) (sym c.new-4.ensures.items) c.in_ok-maps.ensures.channels
 
 pub returns-clause-racks : goal.returns-clause-racks
 returns-clause-racks g c =
@@ -100,13 +72,13 @@ returns-clause-racks g c =
     sym tail ∙ c.pop.ensures.items ∙ ap (λ last. front ++ option_to_list last) c.unwrap.ensures in
     let sixteen : length front ≡ 16 = omega (arith, ap length parted, length-append front (c.unwrap.result ∷ []), length-drop 16 racks, ap length whole, c.into_list-playing.ensures.count) in
     record {
-      playing = ap (channel_marks (λ (channel : PlayChannelOf _). channel.path) mark) c.new-2.ensures.items ∙ c.in_ok-channels.ensures.boxes
+      playing = c.in_ok-channels.ensures.boxes
           ∙ ap (λ list. rack_marks mark (take p list)) (c.in_ok-mapped.ensures.items ∙ ap (take p) first)
           ∙ ap (rack_marks mark) (take-take p p (take 16 racks) (omega arith) ∙ take-take p 16 racks (omega (arith, c.requires.limits.slots)));
-      mapped = ap (channel_marks (λ (channel : MapChannelOf _). channel.path) mark) c.new-4.ensures.items ∙ c.in_ok-maps.ensures.boxes
+      mapped = c.in_ok-maps.ensures.boxes
           ∙ ap (λ list. rack_marks mark (take device.map_slots list)) (c.in_ok-mapped.ensures.tail ∙ ap (drop p) first)
           ∙ ap (rack_marks mark) (part-of-first p device.map_slots 16 racks c.requires.limits.slots);
-      recording = ap (channel_marks (λ (channel : RecordChannelOf _). channel.path) mark) c.new-3.ensures.items ∙ c.in_ok-recorders.ensures.boxes
+      recording = c.in_ok-recorders.ensures.boxes
           ∙ ap (rack_marks mark) (sym (take-append-le device.record_slots front (c.unwrap.result ∷ []) (omega (arith, sixteen, c.requires.limits.recorders))) ∙ ap (take device.record_slots) (sym parted));
       bus = ap (λ marks. marks ∷ []) c.in_ok-bus.ensures.boxes
           ∙ ap (rack_marks mark) (sym (drop_length front (c.unwrap.result ∷ []) 16 sixteen) ∙ ap (drop 16) (sym parted) ∙ drop-drop 16 16 racks);
