@@ -27,7 +27,7 @@ use Rattle.pcm_desk.specs.declared.opening.Opening.{Opening}
 use Rattle.pcm_desk.specs.MapBooks.{is_map_free, taken_of}
 use Rattle.pcm_desk.specs.Channels.{capturing, map_passing, mixed_by, mixing, play_passing, play_rate_at}
 use Rattle.pcm_play.specs.declared.channel.PlayChannelOf.{PlayChannelOf}
-use Rattle.pcm_bus.proofs.Channels.{map_at-channel, play_at-channel, some_channel}
+use Rattle.pcm_bus.proofs.Channels.{some_channel}
 use Rattle.pcm_vchan.specs.declared.parent.ParentOf.{ParentOf}
 use Rattle.pcm_record.specs.declared.channel.RecordChannelOf.{RecordChannelOf}
 use Rattle.pcm_record.specs.Channels.{IsRecordReady, RecordMoves}
@@ -40,11 +40,14 @@ use Rattle.pcm_vchan.specs.Slots.{MapKeeps, Passes, Settles, record_books_of}
 use Rattle.pcm_play.specs.Channels.{IsPlayReady, MayEndRun, PlayMoves, PlayStands}
 
 -- the books once one channel changed, whose book changed by `how`
+books-set : {C Book : Type 0} (book : C → Book) (how : Book → Book) (channels : List C) (slot : ℕ) (old new : C) (other : Book) → slot < length channels → old ≡ get_or channels slot old → book new ≡ how (book old)
+    → map book (set channels slot new) ≡ set (map book channels) slot (how (get_or (map book channels) slot other))
+books-set book how channels slot old new other there is changed =
+    map-set book channels slot new ∙ ap (set (map book channels) slot) (changed ∙ ap how (ap book is ∙ sym (get_or-map book channels slot old other there)))
+
 pub play_books_of-set : {B : Type 0} (how : PlayBook → PlayBook) (channels : List (PlayChannelOf B)) (slot : ℕ) (old new : PlayChannelOf B) (other : PlayBook) → slot < length channels → old ≡ get_or channels slot old → new.book ≡ how old.book
     → play_books_of (set channels slot new) ≡ set (play_books_of channels) slot (how (get_or (play_books_of channels) slot other))
-play_books_of-set {B = B} how channels slot old new other there is changed =
-    map-set (λ (channel : PlayChannelOf B). channel.book) channels slot new
-    ∙ ap (set (play_books_of channels) slot) (changed ∙ ap how (play_at-channel channels slot old other there is))
+play_books_of-set {B = B} = books-set (λ (channel : PlayChannelOf B). channel.book)
 
 -- what holds of each channel once one of them changed
 pub each_set : {X : Type 0} (how : X → X → Type 0) (channels : List X) (at : ℕ) (old new : X) → at < length channels → old ≡ get_or channels at old → how old new
@@ -105,9 +108,7 @@ record_at-channel {B = B} channels slot old other there is = ap (λ (channel : R
 -- their books once one channel changed, whose book changed by `how`
 pub record_books_of-set : {B : Type 0} (how : RecordBook → RecordBook) (channels : List (RecordChannelOf B)) (slot : ℕ) (old new : RecordChannelOf B) (other : RecordBook) → slot < length channels → old ≡ get_or channels slot old → new.book ≡ how old.book
     → record_books_of (set channels slot new) ≡ set (record_books_of channels) slot (how (get_or (record_books_of channels) slot other))
-record_books_of-set {B = B} how channels slot old new other there is changed =
-    map-set (λ (channel : RecordChannelOf B). channel.book) channels slot new
-    ∙ ap (set (record_books_of channels) slot) (changed ∙ ap how (record_at-channel channels slot old other there is))
+record_books_of-set {B = B} = books-set (λ (channel : RecordChannelOf B). channel.book)
 
 -- a channel that moved is ready still
 pub record-ready-moved : {B : Type 0} (kind : B → Kind) (kept : B → Kept) (filters : Filters) (input : List Frame) (keeps : ℕ) (old new : RecordChannelOf B) → RecordMoves kind kept filters input keeps old new → IsRecordReady kind kept filters old → IsRecordReady kind kept filters new
@@ -127,9 +128,7 @@ record_books_of-captured {B = B} device n = books-changed (λ (channel : RecordC
 -- their books once one channel changed, whose book changed by `how`
 pub map_books_of-set : {B : Type 0} (how : MapBook → MapBook) (channels : List (MapChannelOf B)) (slot : ℕ) (old new : MapChannelOf B) (other : MapBook) → slot < length channels → old ≡ get_or channels slot old → new.book ≡ how old.book
     → map_books_of (set channels slot new) ≡ set (map_books_of channels) slot (how (get_or (map_books_of channels) slot other))
-map_books_of-set {B = B} how channels slot old new other there is changed =
-    map-set (λ (channel : MapChannelOf B). channel.book) channels slot new
-    ∙ ap (set (map_books_of channels) slot) (changed ∙ ap how (map_at-channel channels slot old other there is))
+map_books_of-set {B = B} = books-set (λ (channel : MapChannelOf B). channel.book)
 
 -- a channel that moved is ready still
 pub map-ready-moved : {B : Type 0} (kind : B → Kind) (kept : B → Kept) (filters : Filters) (more : List ℕ) (frames : ℕ) (old new : MapChannelOf B) → MapMoves kind kept filters more frames old new → IsMapReady kind kept filters old → IsMapReady kind kept filters new
