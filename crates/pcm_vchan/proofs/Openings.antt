@@ -7,7 +7,8 @@ use Rattle.pcm_oss.specs.declared.reply.Errno.{Errno}
 use Rattle.pcm_path.specs.declared.path.PathOf.{PathOf}
 use Rattle.pcm_desk.specs.declared.device.Device.{Device}
 use Rattle.pcm_bus.specs.Slots.{Each}
-use Rattle.pcm_vchan.specs.Openings.{Begins, BeginsIn, Begun, books_begun, slot_or_busy}
+use Rattle.pcm_vchan.specs.Openings.{Begins, BeginsIn, books_begun, slot_or_busy}
+use Rattle.pcm_vchan.specs.Slots.{ChannelMoves}
 use Rattle.pcm_vchan.proofs.Channels.{each_set, own_set}
 
 prefix_len-map : {X Y : Type 0} (p : Y → Bool) (f : X → Y) (xs : List X) → prefix_len p (map f xs) ≡ prefix_len (λ x. p (f x)) xs
@@ -27,7 +28,7 @@ pub record Opened {B C Book : Type 0} (path : C → PathOf B) (book : C → Book
 
 pub opened : {B C Book : Type 0} (path : C → PathOf B) (book : C → Book) (free : Book → Bool) (number : ℕ → ℕ) (begun : Book) (keeps : C → C → Type 0) (device : Device) (old new : List C) (result : Result ℕ Errno) (first : ℕ) (least : Option ℕ)
     → ((place : ℕ) → first + place ≡ number place) → ((channel : C) → keeps channel channel) → All (λ channel. (path channel).device ≡ device) old → position (λ channel. free (book channel)) old ≡ least → result ≡ slot_or_busy (λ place. first + place) least
-    → BeginsIn (Begun path book begun keeps) least old new → Opened path book free number begun keeps device old new result
+    → BeginsIn (ChannelMoves path book begun keeps) least old new → Opened path book free number begun keeps device old new result
 opened path book free number begun keeps device old new result first None numbers stays own is told same =
     let none : position free (map book old) ≡ None = position-map free book old ∙ is in
     record {
@@ -45,10 +46,10 @@ opened path book free number begun keeps device old new result first (Some slot)
     record {
       begins = record {
         found = named ∙ sym (ap (slot_or_busy number) found);
-        books = ap (map book) b.holds ∙ map-set book old slot b.after ∙ ap (set (map book old) slot) b.begun.book_is
+        books = ap (map book) b.holds ∙ map-set book old slot b.after ∙ ap (set (map book old) slot) b.begun.book
             ∙ sym (ap (λ (found : Option ℕ). books_begun found begun (map book old)) found);
         there = subst (λ (told : Result ℕ Errno). IfOk told (λ slot. slot < number (length old))) (sym named) (omega (arith, numbers slot, numbers (length old), b.there));
       };
       own = subst (All (λ channel. (path channel).device ≡ device)) (sym b.holds) (own_set (λ channel. (path channel).device) device old slot b.before b.after b.there b.held b.begun.device_same own);
-      kept = subst (Each keeps old) (sym b.holds) (each_set keeps old slot b.before b.after b.there b.held b.begun.kept stays);
+      kept = subst (Each keeps old) (sym b.holds) (each_set keeps old slot b.before b.after b.there b.held b.begun.moves stays);
     }

@@ -2,7 +2,6 @@
 use Rattle.std.specs.Prelude.{◌≡◌, ℕ, ◌<◌, List, length, IfOk, Option, Some, None, Result, Ok, Err, slice_index_or, slice_set}
 use Rattle.pcm_oss.specs.declared.reply.Errno.{Errno}
 use Rattle.pcm_oss.specs.declared.reply.Errno.TheVariants.{Busy}
-use Rattle.pcm_path.specs.declared.path.PathOf.{PathOf}
 
 -- the number of the slot that an open takes, where one is free: these are the numbers of places
 abbrev pub slot_or_busy : (ℕ → ℕ) → Option ℕ → Result ℕ Errno
@@ -19,12 +18,6 @@ pub record Begins {Book : Type 0} (number : ℕ → ℕ) (slots : ℕ) (least : 
   pub found : result ≡ slot_or_busy number least
   pub books : new ≡ books_begun least begun old
   pub there : IfOk result (λ told. told < number slots)
-
--- a channel in which an opening began: its book is this one, it is of the device as before, and what it stood for is left so
-pub record Begun {B C Book : Type 0} (path : C → PathOf B) (book : C → Book) (begun : Book) (keeps : C → C → Type 0) (old new : C) : Type 0 where
-  pub book_is : book new ≡ begun
-  pub device_same : (path new).device ≡ (path old).device
-  pub kept : keeps old new
 
 -- a channel begins so in this slot, and all others stay
 pub record BeginsAt {C : Type 0} (begins : C → C → Type 0) (slot : ℕ) (old new : List C) : Type 0 where

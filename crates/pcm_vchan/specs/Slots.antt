@@ -10,6 +10,7 @@ use Rattle.pcm_desk.specs.declared.device.Device.{Device}
 use Rattle.pcm_desk.specs.declared.here.Here.{Here}
 use Rattle.pcm_desk.specs.Channels.{by_way, play_passing}
 use Rattle.pcm_desk.specs.Device.{DeviceSeen}
+use Rattle.pcm_path.specs.declared.path.PathOf.{PathOf}
 use Rattle.pcm_play.specs.declared.channel.PlayChannelOf.{PlayChannelOf}
 use Rattle.pcm_oss.specs.declared.fragments.TheConstants.{RING_BYTES}
 use Rattle.pcm_play.specs.Channels.{PlayMoves, SettlesBook}
@@ -27,7 +28,13 @@ slot_place slots way number = by_way way number number (number - slots)
 abbrev pub Passes : {B : Type 0} → DeviceSeen → ℕ → ℕ → PlayChannelOf B → PlayChannelOf B → Type 0
 Passes device handed n old new = new.book ≡ play_passing device handed n old.book
 
--- what a hand-over leaves of a channel
+-- what a call leaves of a channel of whichever way: it is of the device as before, its book is this one, and what it stood for is kept so
+pub record ChannelMoves {B C Book : Type 0} (path : C → PathOf B) (book_of : C → Book) (left : Book) (keeps : C → C → Type 0) (old new : C) : Type 0 where
+  pub device_same : (path new).device ≡ (path old).device
+  pub book : book_of new ≡ left
+  pub moves : keeps old new
+
+-- what a hand-over leaves of one that plays
 pub record Settles {B : Type 0} (kind : B → Kind) (kept : B → Kept) (here : Here) (old new : PlayChannelOf B) : Type 0 where
   pub device_same : new.path.device ≡ old.path.device
   pub book : SettlesBook here old new

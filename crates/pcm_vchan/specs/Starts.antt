@@ -1,5 +1,5 @@
 -- What the start of a group leaves of the channels of a device.
-use Rattle.std.specs.Prelude.{◌≡◌, ℕ, ◌+◌, ◌^◌, ◌<◌, Bool, ◌==◌, if◌then◌else◌, List, [], length, slice_index_or}
+use Rattle.std.specs.Prelude.{ℕ, ◌+◌, ◌^◌, ◌<◌, Bool, ◌==◌, if◌then◌else◌, List, [], length, slice_index_or}
 use Rattle.pcm_feeder.specs.declared.kind.Kind.{Kind}
 use Rattle.pcm_feeder.specs.Filters.{Filters}
 use Rattle.pcm_feeder.specs.Kept.{Kept}
@@ -12,6 +12,7 @@ use Rattle.pcm_play.specs.declared.channel.PlayChannelOf.{PlayChannelOf}
 use Rattle.pcm_play.specs.Channels.{IsPlayHere, IsPlayServed, PlayMoves}
 use Rattle.pcm_record.specs.declared.channel.RecordChannelOf.{RecordChannelOf}
 use Rattle.pcm_record.specs.Channels.{IsRecordServed, RecordMoves}
+use Rattle.pcm_vchan.specs.Slots.{ChannelMoves}
 
 -- a slot is in the group
 abbrev pub is_in : List ℕ → ℕ → ℕ → Bool
@@ -30,17 +31,15 @@ pub record MayStart {B : Type 0} (kind : B → Kind) (filters : Filters) (here :
   pub counted : channel.book.done + channel.book.written < 2 ^ 64
 
 -- what is left of it: where it is a member it starts, else it stays
-pub record Starts {B : Type 0} (kind : B → Kind) (kept : B → Kept) (filters : Filters) (here : Here) (member : Bool) (old new : PlayChannelOf B) : Type 0 where
-  pub device_same : new.path.device ≡ old.path.device
-  pub book : new.book ≡ (if member then play_starting (seen filters old.path.device) here old.book else old.book)
-  pub moves : PlayMoves kind kept filters [] 0 old new
+abbrev pub Starts : {B : Type 0} → (B → Kind) → (B → Kept) → Filters → Here → Bool → PlayChannelOf B → PlayChannelOf B → Type 0
+Starts kind kept filters here member old new = ChannelMoves (λ channel. channel.path) (λ channel. channel.book)
+    (if member then play_starting (seen filters old.path.device) here old.book else old.book) (PlayMoves kind kept filters [] 0) old new
 
 -- and of a channel that records
 pub record MayRecord {B : Type 0} (kind : B → Kind) (filters : Filters) (channel : RecordChannelOf B) : Type 0 where
   pub kinds : HaveKinds kind (boxes_in channel.path.chain)
   pub planned : IsRecordServed filters channel
 
-pub record Records {B : Type 0} (kind : B → Kind) (kept : B → Kept) (filters : Filters) (member : Bool) (old new : RecordChannelOf B) : Type 0 where
-  pub device_same : new.path.device ≡ old.path.device
-  pub book : new.book ≡ (if member then record_starting old.book else old.book)
-  pub moves : RecordMoves kind kept filters [] 0 old new
+abbrev pub Records : {B : Type 0} → (B → Kind) → (B → Kept) → Filters → Bool → RecordChannelOf B → RecordChannelOf B → Type 0
+Records kind kept filters member old new = ChannelMoves (λ channel. channel.path) (λ channel. channel.book)
+    (if member then record_starting old.book else old.book) (RecordMoves kind kept filters [] 0) old new

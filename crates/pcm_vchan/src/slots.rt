@@ -70,7 +70,7 @@ pub(crate) trait Channel<B: Feeder>: Drop {
 impl<B: Feeder> Channel<B> for PlayChannelOf<B> {
     ghost use Rattle.pcm_desk.specs.PlayBooks.{is_play_free, play_begun};
     ghost use Rattle.pcm_play.specs.Channels.{IsPlayUnopened, PlayMoves};
-    ghost use Rattle.pcm_vchan.specs.Openings.{Begun};
+    ghost use Rattle.pcm_vchan.specs.Slots.{ChannelMoves};
 
     ghost path = { λ channel. channel.path };
 
@@ -79,7 +79,7 @@ impl<B: Feeder> Channel<B> for PlayChannelOf<B> {
     ghost is_unopened = { IsPlayUnopened B.kind B.kept };
 
     ghost begins = { λ filters settings.
-        Begun (λ channel. channel.path) (λ channel. channel.book) (play_begun settings) (PlayMoves B.kind B.kept filters [] 0) };
+        ChannelMoves (λ channel. channel.path) (λ channel. channel.book) (play_begun settings) (PlayMoves B.kind B.kept filters [] 0) };
 
     fn new(alloc: Global, device: Device, tables: &Tables, rack: RackOf<B>) -> Made<Self>
         requires device { HasRates device }
@@ -102,7 +102,7 @@ impl<B: Feeder> Channel<B> for PlayChannelOf<B> {
 impl<B: Feeder> Channel<B> for RecordChannelOf<B> {
     ghost use Rattle.pcm_desk.specs.RecordBooks.{is_record_free, record_begun};
     ghost use Rattle.pcm_record.specs.Channels.{IsRecordUnopened, RecordMoves};
-    ghost use Rattle.pcm_vchan.specs.Openings.{Begun};
+    ghost use Rattle.pcm_vchan.specs.Slots.{ChannelMoves};
 
     ghost path = { λ channel. channel.path };
 
@@ -111,7 +111,7 @@ impl<B: Feeder> Channel<B> for RecordChannelOf<B> {
     ghost is_unopened = { IsRecordUnopened B.kind B.kept };
 
     ghost begins = { λ filters settings.
-        Begun (λ channel. channel.path) (λ channel. channel.book) (record_begun settings) (RecordMoves B.kind B.kept filters [] 0) };
+        ChannelMoves (λ channel. channel.path) (λ channel. channel.book) (record_begun settings) (RecordMoves B.kind B.kept filters [] 0) };
 
     fn new(alloc: Global, device: Device, tables: &Tables, rack: RackOf<B>) -> Made<Self>
         requires device { HasRates device }
@@ -134,8 +134,7 @@ impl<B: Feeder> Channel<B> for RecordChannelOf<B> {
 impl<B: Feeder> Channel<B> for MapChannelOf<B> {
     ghost use Rattle.pcm_desk.specs.MapBooks.{is_map_free, map_begun};
     ghost use Rattle.pcm_map.specs.Channels.{IsMapUnopened};
-    ghost use Rattle.pcm_vchan.specs.Openings.{Begun};
-    ghost use Rattle.pcm_vchan.specs.Slots.{MapKeeps};
+    ghost use Rattle.pcm_vchan.specs.Slots.{ChannelMoves, MapKeeps};
 
     ghost path = { λ channel. channel.path };
 
@@ -144,7 +143,7 @@ impl<B: Feeder> Channel<B> for MapChannelOf<B> {
     ghost is_unopened = { IsMapUnopened B.kind B.kept };
 
     ghost begins = { λ filters settings.
-        Begun (λ channel. channel.path) (λ channel. channel.book) (map_begun settings) (MapKeeps B.kind B.kept filters (λ area. area)) };
+        ChannelMoves (λ channel. channel.path) (λ channel. channel.book) (map_begun settings) (MapKeeps B.kind B.kept filters (λ area. area)) };
 
     fn new(alloc: Global, device: Device, tables: &Tables, rack: RackOf<B>) -> Made<Self>
         requires device { HasRates device }
