@@ -1,22 +1,143 @@
--- Answers that leave a parent and what descriptors hold as they were.
-use Rattle.std.proofs.Common.{◌≡◌, [], get_or, Result, Ok, Err, refl}
+-- What a call leaves of a parent: it may change channels of one way alone, one of them, or none.
+use Rattle.std.proofs.Common.{rules, ◌≡◌, ℕ, ◌<◌, List, [], length, get_or, Result, Ok, Err, refl, sym, ap, ◌∙◌, subst}
 use Rattle.std.specs.Prelude.{OnErr}
-use Rattle.pcm_feeder.specs.declared.kind.Kind.{Kind}
-use Rattle.pcm_feeder.specs.Filters.{Filters}
-use Rattle.pcm_feeder.specs.Kept.{Kept}
 use Rattle.pcm_oss.specs.declared.reply.Answer.{Answer}
 use Rattle.pcm_oss.specs.declared.reply.Errno.{Errno}
 use Rattle.pcm_oss.specs.Replies.{bytes_due}
-use Rattle.pcm_desk.specs.Device.{DeviceSeen}
-use Rattle.pcm_desk.specs.Desk.{Desk, DeskTurn}
+use Rattle.pcm_fixed.specs.declared.fixed.Fixed.{Fixed}
+use Rattle.pcm_fixed.specs.Fixed.{fixed_items}
+use Rattle.pcm_feeder.specs.declared.kind.Kind.{Kind}
+use Rattle.pcm_feeder.specs.Filters.{Filters}
+use Rattle.pcm_feeder.specs.Kept.{Kept}
+use Rattle.pcm_desk.specs.declared.device.Device.{Device}
+use Rattle.pcm_desk.specs.Device.{DeviceSeen, seen}
+use Rattle.pcm_desk.specs.Desk.{Desk, DeskTurn, refusing}
+use Rattle.pcm_play.specs.declared.channel.PlayChannelOf.{PlayChannelOf}
+use Rattle.pcm_play.specs.Channels.{PlayMoves}
 use Rattle.pcm_play.proofs.Moving.{moves-nothing}
+use Rattle.pcm_record.specs.declared.channel.RecordChannelOf.{RecordChannelOf}
+use Rattle.pcm_record.specs.Channels.{RecordMoves}
 use Rattle.pcm_record.proofs.Moving as recorders
+use Rattle.pcm_map.specs.declared.channel.MapChannelOf.{MapChannelOf}
+use Rattle.pcm_bus.specs.Slots.{Each, MapAreOf, PlayAreOf}
 use Rattle.pcm_vchan.specs.declared.parent.ParentOf.{ParentOf}
-use Rattle.pcm_vchan.specs.Parents.{map_channels, play_channels, record_channels, AreServed}
-use Rattle.pcm_vchan.proofs.Channels.{map-keeps-nothing}
+use Rattle.pcm_vchan.specs.Lending.{with_channel, with_map_channel, with_recorder}
+use Rattle.pcm_vchan.specs.Parents.{map_channels, play_channels, record_channels, untouched, AreClosable, AreServed, EachMapKeeps, EachPlayMoves, EachRecordMoves, KeepsOutput}
+use Rattle.pcm_vchan.specs.Slots.{MapKeeps, RecordAreOf}
+use Rattle.pcm_vchan.specs.Starts.{EachAt}
+use Rattle.pcm_vchan.proofs.Channels.{each_set, map-keeps-nothing, own_set}
 use Rattle.pcm_engine.specs.declared.descriptors.Descriptors.{Descriptors}
-use Rattle.pcm_engine.specs.Answered.{AnswersBy}
-use Rattle.pcm_engine.specs.Desks.{ChangesBy, RepliesBy}
+use Rattle.pcm_engine.specs.Answered.{AnswersBy, Leaves}
+use Rattle.pcm_engine.specs.Desks.{ChangesBy, RepliesBy, desk_with}
+use Rattle.pcm_engine.specs.Invariants.{AreOwn}
+
+-- channels that are served, or may be closed, are of their device
+pub own-served : {B : Type 0} {kind : B → Kind} {kept : B → Kept} {filters : Filters} {parent : ParentOf B} → AreServed kind kept filters parent → AreOwn parent
+own-served served = record { playing = served.own; recording = served.recorders_own; mapped = served.maps_own }
+
+pub own-closable : {B : Type 0} {kind : B → Kind} {parent : ParentOf B} → AreClosable kind parent → AreOwn parent
+own-closable closable = record { playing = closable.own; recording = closable.recorders_own; mapped = closable.maps_own }
+
+-- ---- channels of a way that stay
+
+play_own : {B : Type 0} (old new : ParentOf B) → new.device ≡ old.device → new.channels ≡ old.channels → PlayAreOf old.device (play_channels old) → PlayAreOf new.device (play_channels new)
+play_own {B} old new device channels own =
+    subst (λ (v : Fixed (PlayChannelOf B)). PlayAreOf new.device (fixed_items v)) (sym channels) (subst (λ (d : Device). PlayAreOf d (play_channels old)) (sym device) own)
+
+record_own : {B : Type 0} (old new : ParentOf B) → new.device ≡ old.device → new.recorders ≡ old.recorders → RecordAreOf old.device (record_channels old) → RecordAreOf new.device (record_channels new)
+record_own {B} old new device recorders own =
+    subst (λ (v : Fixed (RecordChannelOf B)). RecordAreOf new.device (fixed_items v)) (sym recorders) (subst (λ (d : Device). RecordAreOf d (record_channels old)) (sym device) own)
+
+pub map-own : {B : Type 0} (old new : ParentOf B) → new.device ≡ old.device → new.maps ≡ old.maps → MapAreOf old.device (map_channels old) → MapAreOf new.device (map_channels new)
+map-own {B} old new device maps own =
+    subst (λ (v : Fixed (MapChannelOf B)). MapAreOf new.device (fixed_items v)) (sym maps) (subst (λ (d : Device). MapAreOf d (map_channels old)) (sym device) own)
+
+pub play-stay : {B : Type 0} (kind : B → Kind) (kept : B → Kept) (filters : Filters) (moved : List ℕ) (old new : ParentOf B) → new.channels ≡ old.channels → EachPlayMoves kind kept filters moved 0 old new
+play-stay {B} kind kept filters moved old new same =
+    subst (λ (v : Fixed (PlayChannelOf B)). Each (PlayMoves kind kept filters moved 0) (play_channels old) (fixed_items v)) (sym same)
+    (λ slot other there. moves-nothing kind kept filters moved 0 (get_or (play_channels old) slot other))
+
+pub record-stay : {B : Type 0} (kind : B → Kind) (kept : B → Kept) (filters : Filters) (old new : ParentOf B) → new.recorders ≡ old.recorders → EachRecordMoves kind kept filters [] 0 old new
+record-stay {B} kind kept filters old new same =
+    subst (λ (v : Fixed (RecordChannelOf B)). Each (RecordMoves kind kept filters [] 0) (record_channels old) (fixed_items v)) (sym same)
+    (λ slot other there. recorders.moves-nothing kind kept filters [] 0 (get_or (record_channels old) slot other))
+
+pub map-stay : {B : Type 0} (kind : B → Kind) (kept : B → Kept) (filters : Filters) (old new : ParentOf B) → new.maps ≡ old.maps → EachMapKeeps kind kept filters untouched old new
+map-stay {B} kind kept filters old new same =
+    subst (λ (v : Fixed (MapChannelOf B)). EachAt (λ slot. MapKeeps kind kept filters (untouched slot)) (map_channels old) (fixed_items v)) (sym same)
+    (λ slot other there. map-keeps-nothing kind kept filters (get_or (map_channels old) slot other))
+
+-- ---- what is left where those of one way changed
+
+pub leaves-playing : {B : Type 0} (kind : B → Kind) (kept : B → Kept) (filters : Filters) (moved : List ℕ) (old new : ParentOf B) → AreOwn old → KeepsOutput old new → new.recorders ≡ old.recorders → new.maps ≡ old.maps
+    → PlayAreOf new.device (play_channels new) → EachPlayMoves kind kept filters moved 0 old new → Leaves kind kept filters moved untouched old new
+leaves-playing kind kept filters moved old new own output recording mapped playing moves = record {
+  own = record { playing = playing; recording = record_own old new output.device_same recording own.recording; mapped = map-own old new output.device_same mapped own.mapped };
+  output = output;
+  channels = moves;
+  recorders = record-stay kind kept filters old new recording;
+  maps = map-stay kind kept filters old new mapped;
+}
+
+pub leaves-recording : {B : Type 0} (kind : B → Kind) (kept : B → Kept) (filters : Filters) (old new : ParentOf B) → AreOwn old → KeepsOutput old new → new.channels ≡ old.channels → new.maps ≡ old.maps
+    → RecordAreOf new.device (record_channels new) → EachRecordMoves kind kept filters [] 0 old new → Leaves kind kept filters [] untouched old new
+leaves-recording kind kept filters old new own output playing mapped recording moves = record {
+  own = record { playing = play_own old new output.device_same playing own.playing; recording = recording; mapped = map-own old new output.device_same mapped own.mapped };
+  output = output;
+  channels = play-stay kind kept filters [] old new playing;
+  recorders = moves;
+  maps = map-stay kind kept filters old new mapped;
+}
+
+pub leaves-mapping : {B : Type 0} (kind : B → Kind) (kept : B → Kept) (filters : Filters) (writes : ℕ → List ℕ → List ℕ) (old new : ParentOf B) → AreOwn old → KeepsOutput old new → new.channels ≡ old.channels → new.recorders ≡ old.recorders
+    → MapAreOf new.device (map_channels new) → EachMapKeeps kind kept filters writes old new → Leaves kind kept filters [] writes old new
+leaves-mapping kind kept filters writes old new own output playing recording mapped keeps = record {
+  own = record { playing = play_own old new output.device_same playing own.playing; recording = record_own old new output.device_same recording own.recording; mapped = mapped };
+  output = output;
+  channels = play-stay kind kept filters [] old new playing;
+  recorders = record-stay kind kept filters old new recording;
+  maps = keeps;
+}
+
+-- ---- what is left where one channel was lent
+
+pub leaves-played : {B : Type 0} (kind : B → Kind) (kept : B → Kept) (filters : Filters) (moved : List ℕ) (parent : ParentOf B) (slot : ℕ) (lent new : PlayChannelOf B) → AreOwn parent → slot < length (play_channels parent)
+    → lent ≡ get_or (play_channels parent) slot lent → new.path.device ≡ lent.path.device → PlayMoves kind kept filters moved 0 lent new → Leaves kind kept filters moved untouched parent (with_channel parent slot new)
+leaves-played {B} kind kept filters moved parent slot lent new own there is device moves =
+    leaves-playing kind kept filters moved parent (with_channel parent slot new) own (search rules) refl refl
+    (own_set (λ (channel : PlayChannelOf B). channel.path.device) parent.device (play_channels parent) slot lent new there is device own.playing)
+    (each_set (PlayMoves kind kept filters moved 0) (play_channels parent) slot lent new there is moves (moves-nothing kind kept filters moved 0))
+
+pub leaves-recorded : {B : Type 0} (kind : B → Kind) (kept : B → Kept) (filters : Filters) (parent : ParentOf B) (slot : ℕ) (lent new : RecordChannelOf B) → AreOwn parent → slot < length (record_channels parent)
+    → lent ≡ get_or (record_channels parent) slot lent → new.path.device ≡ lent.path.device → RecordMoves kind kept filters [] 0 lent new → Leaves kind kept filters [] untouched parent (with_recorder parent slot new)
+leaves-recorded {B} kind kept filters parent slot lent new own there is device moves =
+    leaves-recording kind kept filters parent (with_recorder parent slot new) own (search rules) refl refl
+    (own_set (λ (channel : RecordChannelOf B). channel.path.device) parent.device (record_channels parent) slot lent new there is device own.recording)
+    (each_set (RecordMoves kind kept filters [] 0) (record_channels parent) slot lent new there is moves (recorders.moves-nothing kind kept filters [] 0))
+
+-- whatever is written into areas
+pub leaves-written : {B : Type 0} (kind : B → Kind) (kept : B → Kept) (filters : Filters) (writes : ℕ → List ℕ → List ℕ) (parent : ParentOf B) (slot : ℕ) (lent new : MapChannelOf B) → AreOwn parent → slot < length (map_channels parent)
+    → lent ≡ get_or (map_channels parent) slot lent → new.path.device ≡ lent.path.device → EachMapKeeps kind kept filters writes parent (with_map_channel parent slot new)
+    → Leaves kind kept filters [] writes parent (with_map_channel parent slot new)
+leaves-written {B} kind kept filters writes parent slot lent new own there is device keeps =
+    leaves-mapping kind kept filters writes parent (with_map_channel parent slot new) own (search rules) refl refl
+    (own_set (λ (channel : MapChannelOf B). channel.path.device) parent.device (map_channels parent) slot lent new there is device own.mapped) keeps
+
+-- and where nothing is
+pub leaves-mapped : {B : Type 0} (kind : B → Kind) (kept : B → Kept) (filters : Filters) (parent : ParentOf B) (slot : ℕ) (lent new : MapChannelOf B) → AreOwn parent → slot < length (map_channels parent)
+    → lent ≡ get_or (map_channels parent) slot lent → new.path.device ≡ lent.path.device → MapKeeps kind kept filters (untouched 0) lent new → Leaves kind kept filters [] untouched parent (with_map_channel parent slot new)
+leaves-mapped kind kept filters parent slot lent new own there is device keeps =
+    leaves-written kind kept filters untouched parent slot lent new own there is device
+    (each_set (MapKeeps kind kept filters (untouched 0)) (map_channels parent) slot lent new there is keeps (map-keeps-nothing kind kept filters))
+
+-- ---- what is left where nothing changed
+
+pub output-same : {B : Type 0} (parent : ParentOf B) → KeepsOutput parent parent
+output-same parent = record { device_same = refl; mixer_same = refl; bus_same = refl; ring_same = refl; handed_same = refl; mixed_same = refl; slots_same = refl; recorders_same = refl; maps_same = refl }
+
+pub leaves-nothing : {B : Type 0} (kind : B → Kind) (kept : B → Kept) (filters : Filters) (moved : List ℕ) (parent : ParentOf B) → AreOwn parent → Leaves kind kept filters moved untouched parent parent
+leaves-nothing kind kept filters moved parent own =
+    leaves-playing kind kept filters moved parent parent own (output-same parent) refl refl own.playing (play-stay kind kept filters moved parent parent refl)
 
 -- what holds at all holds of a refusal
 refusals_too : {P : Type 0} (result : Result Answer Errno) → P → OnErr result P
@@ -27,14 +148,14 @@ pub answers-nothing : {B : Type 0} (kind : B → Kind) (kept : B → Kept) (filt
     → bytes_due result ≡ 0 → ChangesBy filters turn parent descriptors parent descriptors → RepliesBy filters turn parent descriptors result → AnswersBy kind kept filters turn parent descriptors parent descriptors result
 answers-nothing kind kept filters turn parent descriptors result served silent desk reply = record {
   silent = silent;
-  own = served.own;
-  recorders_own = served.recorders_own;
-  maps_own = served.maps_own;
-  output = record { device_same = refl; mixer_same = refl; bus_same = refl; ring_same = refl; handed_same = refl; mixed_same = refl; slots_same = refl; recorders_same = refl; maps_same = refl };
   refused = refusals_too result (refl, refl);
   desk = desk;
   reply = reply;
-  channels = λ slot other there. moves-nothing kind kept filters [] 0 (get_or (play_channels parent) slot other);
-  recorders = λ slot other there. recorders.moves-nothing kind kept filters [] 0 (get_or (record_channels parent) slot other);
-  maps = λ slot other there. map-keeps-nothing kind kept filters (get_or (map_channels parent) slot other);
+  leaves = leaves-nothing kind kept filters [] parent (own-served served);
 }
+
+-- by a turn that refuses
+pub answers-refusal : {B : Type 0} (kind : B → Kind) (kept : B → Kept) (filters : Filters) (turn : DeviceSeen → Desk → DeskTurn) (parent : ParentOf B) (descriptors : Descriptors) (result : Result Answer Errno) (errno : Errno) → AreServed kind kept filters parent
+    → turn (seen filters parent.device) (desk_with parent descriptors) ≡ refusing (desk_with parent descriptors) errno → result ≡ Err errno → AnswersBy kind kept filters turn parent descriptors parent descriptors result
+answers-refusal kind kept filters turn parent descriptors result errno served refused is =
+    answers-nothing kind kept filters turn parent descriptors result served (ap bytes_due is) (sym (ap (λ (t : DeskTurn). t.desk) refused)) (is ∙ sym (ap (λ (t : DeskTurn). t.reply) refused))

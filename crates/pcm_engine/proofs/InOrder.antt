@@ -94,7 +94,7 @@ relies kind kept engine ready = record { device_is = ready.limits.device_is; rat
 
 -- few frames were mixed, since the device has been given few
 pub few-mixed : {B : Type 0} (kept : B → Kept) (engine : EngineOf B) → HasBus kept (device_of engine) engine.parent → engine.parent.mixed < 2 ^ 53
-few-mixed kept engine has = omega (arith, mixed-few kept (device_of engine) engine.parent has engine.life)
+few-mixed kept engine has = omega (arith, mixed-few kept (device_of engine) engine.parent has engine.order.life)
 
 -- the mix and the device are within the limits
 pub here-within : {B : Type 0} (kept : B → Kept) (engine : EngineOf B) → IsInLimits (device_of engine) → HasBus kept (device_of engine) engine.parent → IsHere (here_of engine.parent)
@@ -112,7 +112,7 @@ channels-here {B} kept engine has places slot other there =
     let book : At channel.book =
     subst At (get_or-map (λ (c : PlayChannelOf B). c.book) (play_channels engine.parent) slot other (play_unopened device) there)
     (subst (λ (here : Here). PlayIsHere (play_rate_at device (play_at device (desk_of engine) slot)) here (play_at device (desk_of engine) slot)) (sym (here-seen kept engine has)) (places slot)) in
-    subst (λ (d : Device). PlayIsHere (play_rate_at (seen engine.tables d) channel.book) (here_of engine.parent) channel.book) (sym (engine.own slot other there)) book
+    subst (λ (d : Device). PlayIsHere (play_rate_at (seen engine.tables d) channel.book) (here_of engine.parent) channel.book) (sym (engine.order.own.playing slot other there)) book
 
 -- books that nobody has opened are anywhere
 pub books-start : {B : Type 0} (filters : Filters) (device : Device) (channels : List (PlayChannelOf B)) (slot : ℕ) (here : Here) → let none : PlayBook = play_unopened (seen filters device) in
@@ -198,22 +198,22 @@ ready-all kind kept engine playing recording mapped bus limits places members = 
   recording = recording;
   mapped = mapped;
   bus = bus;
-  books = λ slot. books_safe kind kept engine.tables engine.parent.device (play_channels engine.parent) slot engine.own playing;
-  records = records_safe kind kept engine.tables engine.parent.device (desk_of engine) (record_channels engine.parent) refl engine.recorders_own recording;
-  maps = maps_safe kind kept engine.tables engine.parent.device (desk_of engine) (map_channels engine.parent) refl engine.maps_own mapped;
+  books = λ slot. books_safe kind kept engine.tables engine.parent.device (play_channels engine.parent) slot engine.order.own.playing playing;
+  records = records_safe kind kept engine.tables engine.parent.device (desk_of engine) (record_channels engine.parent) refl engine.order.own.recording recording;
+  maps = maps_safe kind kept engine.tables engine.parent.device (desk_of engine) (map_channels engine.parent) refl engine.order.own.mapped mapped;
   rings = rings-hold engine;
 }
 
 -- they are ready for a call
 pub served : {B : Type 0} (kind : B → Kind) (kept : B → Kept) (engine : EngineOf B) → AreReady kind kept engine → AreServed kind kept engine.tables engine.parent
-served kind kept engine ready = record { own = engine.own; recorders_own = engine.recorders_own; maps_own = engine.maps_own; ready = ready.playing; recorders_ready = ready.recording; maps_ready = ready.mapped }
+served kind kept engine ready = record { own = engine.order.own.playing; recorders_own = engine.order.own.recording; maps_own = engine.order.own.mapped; ready = ready.playing; recorders_ready = ready.recording; maps_ready = ready.mapped }
 
 -- and may be closed
 pub closable : {B : Type 0} (kind : B → Kind) (kept : B → Kept) (engine : EngineOf B) → AreReady kind kept engine → AreClosable kind engine.parent
 closable kind kept engine ready = record {
-  own = engine.own;
-  recorders_own = engine.recorders_own;
-  maps_own = engine.maps_own;
+  own = engine.order.own.playing;
+  recorders_own = engine.order.own.recording;
+  maps_own = engine.order.own.mapped;
   kinds = λ slot other there. (ready.playing slot other there).kinds;
   recorders_kinds = λ slot other there. (ready.recording slot other there).kinds;
   maps_kinds = λ slot other there. (ready.mapped slot other there).kinds;
@@ -226,19 +226,19 @@ pub play-pace : {B : Type 0} (engine : EngineOf B) (slot : ℕ) (other : PlayCha
 play-pace {B} engine slot other there =
     let book : PlayChannelOf B → PlayBook = λ channel. channel.book in
     subst (PlayKeepsPace engine.parent.mixed) (get_or-map book (play_channels engine.parent) slot other other.book there)
-    (engine.pace.playing slot other.book (omega (arith, there, length-map (play_channels engine.parent) book)))
+    (engine.order.pace.playing slot other.book (omega (arith, there, length-map (play_channels engine.parent) book)))
 
 pub record-pace : {B : Type 0} (engine : EngineOf B) (slot : ℕ) (other : RecordChannelOf B) → slot < length (record_channels engine.parent) → RecordKeepsPace engine.parent.handed (get_or (record_channels engine.parent) slot other).book
 record-pace {B} engine slot other there =
     let book : RecordChannelOf B → RecordBook = λ channel. channel.book in
     subst (RecordKeepsPace engine.parent.handed) (get_or-map book (record_channels engine.parent) slot other other.book there)
-    (engine.pace.recording slot other.book (omega (arith, there, length-map (record_channels engine.parent) book)))
+    (engine.order.pace.recording slot other.book (omega (arith, there, length-map (record_channels engine.parent) book)))
 
 pub map-pace : {B : Type 0} (engine : EngineOf B) (slot : ℕ) (other : MapChannelOf B) → slot < length (map_channels engine.parent) → MapKeepsPace engine.parent.mixed (get_or (map_channels engine.parent) slot other).book
 map-pace {B} engine slot other there =
     let book : MapChannelOf B → MapBook = λ channel. channel.book in
     subst (MapKeepsPace engine.parent.mixed) (get_or-map book (map_channels engine.parent) slot other other.book there)
-    (engine.pace.mapped slot other.book (omega (arith, there, length-map (map_channels engine.parent) book)))
+    (engine.order.pace.mapped slot other.book (omega (arith, there, length-map (map_channels engine.parent) book)))
 
 -- the bytes that one counts are few
 pub bytes-counted : {B : Type 0} (kind : B → Kind) (kept : B → Kept) (engine : EngineOf B) → AreReady kind kept engine
@@ -246,9 +246,9 @@ pub bytes-counted : {B : Type 0} (kind : B → Kind) (kept : B → Kept) (engine
 bytes-counted {B} kind kept engine ready slot other there =
     let channel : PlayChannelOf B = get_or (play_channels engine.parent) slot other in
     let near = near-rate (seen engine.tables channel.path.device) channel.book.opening.settings
-    (subst (λ (d : Device). IsDevice (seen engine.tables d)) (sym (engine.own slot other there)) ready.limits.device_is) channel.serves.rate in
+    (subst (λ (d : Device). IsDevice (seen engine.tables d)) (sym (engine.order.own.playing slot other there)) ready.limits.device_is) channel.serves.rate in
     let safe = safe-served engine.tables channel (ready.playing slot other there).planned in
-    omega (arith, bytes-few _ engine.parent.mixed channel.book near safe (play-pace engine slot other there), mixed-few kept (device_of engine) engine.parent ready.bus engine.life)
+    omega (arith, bytes-few _ engine.parent.mixed channel.book near safe (play-pace engine slot other there), mixed-few kept (device_of engine) engine.parent ready.bus engine.order.life)
 
 -- and what a mapped one has taken fits
 pub maps-taken : {B : Type 0} (kind : B → Kind) (kept : B → Kept) (engine : EngineOf B) → AreReady kind kept engine
@@ -256,7 +256,7 @@ pub maps-taken : {B : Type 0} (kind : B → Kind) (kept : B → Kept) (engine : 
 maps-taken kind kept engine ready slot other there =
     let channel = get_or (map_channels engine.parent) slot other in
     let given = (map-pace engine slot other there).given in
-    let device = subst (λ (d : Device). IsDevice (seen engine.tables d)) (sym (engine.maps_own slot other there)) ready.bus.planned.limits in
+    let device = subst (λ (d : Device). IsDevice (seen engine.tables d)) (sym (engine.order.own.mapped slot other there)) ready.bus.planned.limits in
     taken-few engine.tables channel device (ready.mapped slot other there).planned (omega (arith, given, few-mixed kept engine ready.bus))
 
 -- all may be asked where the mix and the device are

@@ -14,6 +14,7 @@ pub mod Mixing
 pub mod Mapped
 pub mod Standing
 pub mod Recording
+pub mod Applying
 pub mod Called
 pub mod Starting
 pub mod Pools

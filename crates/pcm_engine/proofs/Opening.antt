@@ -1,5 +1,5 @@
 -- An opening of whichever way: which slot it takes, and what becomes of the desk.
-use Rattle.std.proofs.Common.{◌≡◌, ℕ, ◌≤◌, Option, Some, None, Result, Ok, length, refl, sym, ap, ◌∙◌}
+use Rattle.std.proofs.Common.{◌≡◌, ℕ, ◌≤◌, List, [], Option, Some, None, Result, Ok, length, refl, sym, ap, ◌∙◌}
 use Rattle.std.proofs.lemmas.List.{length-map}
 use Rattle.pcm_fixed.specs.declared.fixed.Fixed.{Fixed}
 use Rattle.pcm_fixed.specs.Fixed.{fixed_items}
@@ -12,6 +12,9 @@ use Rattle.pcm_oss.specs.declared.event.Way.{Way}
 use Rattle.pcm_oss.specs.declared.event.Way.TheVariants.{Play, Record, Map}
 use Rattle.pcm_oss.specs.declared.reply.Answer.TheVariants.{Number}
 use Rattle.pcm_oss.specs.declared.reply.Errno.{Errno}
+use Rattle.pcm_desk.specs.declared.play_book.PlayBook.{PlayBook}
+use Rattle.pcm_desk.specs.declared.record_book.RecordBook.{RecordBook}
+use Rattle.pcm_desk.specs.declared.map_book.MapBook.{MapBook}
 use Rattle.pcm_desk.specs.PlayBooks.{play_begun}
 use Rattle.pcm_desk.specs.RecordBooks.{record_begun}
 use Rattle.pcm_desk.specs.MapBooks.{map_begun}
@@ -23,9 +26,12 @@ use Rattle.pcm_map.specs.declared.channel.MapChannelOf.{MapChannelOf}
 use Rattle.pcm_bus.specs.Slots.{map_books_of, play_books_of}
 use Rattle.pcm_vchan.specs.declared.parent.ParentOf.{ParentOf}
 use Rattle.pcm_vchan.specs.Slots.{record_books_of, slot_place}
-use Rattle.pcm_vchan.specs.Parents.{books_begun, map_books, play_books, play_channels, record_books, KeepsOutput, OpensMap, OpensPlay, OpensRecord}
+use Rattle.pcm_vchan.specs.Parents.{books_begun, map_books, play_books, play_channels, record_books, untouched, KeepsOutput, OpensMap, OpensPlay, OpensRecord}
 use Rattle.pcm_engine.specs.declared.descriptors.Descriptors.{Descriptors}
 use Rattle.pcm_engine.specs.Desks.{desk_with, with_held}
+use Rattle.pcm_engine.specs.Answered.{Leaves}
+use Rattle.pcm_engine.specs.Invariants.{AreOwn}
+use Rattle.pcm_engine.proofs.Answering.{leaves-mapping, leaves-playing, leaves-recording}
 use Rattle.pcm_engine.proofs.Turning.{opened-desk, opened-number, slot-found, told-behind}
 
 -- what an opening of whichever way says of a parent
@@ -56,56 +62,50 @@ pub opened-behind : {B : Type 0} (kind : B → Kind) (kept : B → Kept) (filter
 opened-behind kind kept filters settings way old new result told opens is map =
     told-behind Map old.device.play_slots (least_free_map (map_books old)) told (sym (opens.mapped map).begins.found ∙ is) refl
 
--- the desk is that of the rules
+-- what it leaves of the parent
+pub leaves-opened : {B : Type 0} (kind : B → Kind) (kept : B → Kept) (filters : Filters) (settings : Settings) (way : Way) (old new : ParentOf B) (result : Result ℕ Errno) → AreOwn old → Opens kind kept filters settings way old new result
+    → Leaves kind kept filters [] untouched old new
+leaves-opened kind kept filters settings Play old new result own opens = let o = opens.play refl in leaves-playing kind kept filters [] old new own opens.output o.others o.mapped o.own o.moves
+leaves-opened kind kept filters settings Record old new result own opens = let o = opens.recording refl in leaves-recording kind kept filters old new own opens.output o.others o.mapped o.own o.moves
+leaves-opened kind kept filters settings Map old new result own opens = let o = opens.mapped refl in leaves-mapping kind kept filters untouched old new own opens.output o.others o.recording o.own o.keeps
+
+-- the desk with other books, and other descriptors
+pub rebooked : {B : Type 0} (old new : ParentOf B) (set after : Descriptors) (play : List PlayBook) (recording : List RecordBook) (mapped : List MapBook) → KeepsOutput old new → after ≡ set → play_books new ≡ play → record_books new ≡ recording → map_books new ≡ mapped
+    → desk_with new after ≡ record (desk_with old set) { play = play; recording = recording; mapped = mapped }
+rebooked old new set after play recording mapped output is plays records maps = λ i. record {
+  play = plays i;
+  recording = records i;
+  mapped = maps i;
+  descriptors = (is i).held.value;
+  groups = (is i).groups;
+  mixer = output.mixer_same i;
+  handed = output.handed_same i;
+  mixed = output.mixed_same i;
+}
+
+-- it is that of the rules
 pub opened-turn : {B : Type 0} (kind : B → Kind) (kept : B → Kept) (filters : Filters) (settings : Settings) (way : Way) (old new : ParentOf B) (result : Result ℕ Errno) (told fd : ℕ) (before after : Descriptors)
     → Opens kind kept filters settings way old new result → result ≡ Ok told → held_by (desk_with old before) fd ≡ None
     → after ≡ with_held before fd (Some (record { way = way; slot = slot_place old.device.play_slots way told }))
     → desk_with new after ≡ (open_turn (desk_with old before) fd way settings).desk
 opened-turn {B} kind kept filters settings Play old new result told fd before after opens is none set =
     let o = opens.play refl in
-    let place = slot_place old.device.play_slots Play told in
     let least = (opened-least kind kept filters settings Play old new result told opens is).0 in
-    (λ i. record {
-      play = (o.begins.books ∙ ap (λ (found : Option ℕ). books_begun found (play_begun settings) (play_books old)) least) i;
-      recording = ap (λ (v : Fixed (RecordChannelOf B)). record_books_of (fixed_items v)) o.others i;
-      mapped = ap (λ (v : Fixed (MapChannelOf B)). map_books_of (fixed_items v)) o.mapped i;
-      descriptors = ap (λ (d : Descriptors). d.held.value) set i;
-      groups = ap (λ (d : Descriptors). d.groups) set i;
-      mixer = opens.output.mixer_same i;
-      handed = opens.output.handed_same i;
-      mixed = opens.output.mixed_same i;
-    })
-    ∙ opened-desk Play (desk_with old before) fd settings place none least
+    rebooked old new _ after _ _ _ opens.output set (o.begins.books ∙ ap (λ (found : Option ℕ). books_begun found (play_begun settings) (play_books old)) least)
+    (ap (λ (v : Fixed (RecordChannelOf B)). record_books_of (fixed_items v)) o.others) (ap (λ (v : Fixed (MapChannelOf B)). map_books_of (fixed_items v)) o.mapped)
+    ∙ opened-desk Play (desk_with old before) fd settings (slot_place old.device.play_slots Play told) none least
 opened-turn {B} kind kept filters settings Record old new result told fd before after opens is none set =
     let o = opens.recording refl in
-    let place = slot_place old.device.play_slots Record told in
     let least = (opened-least kind kept filters settings Record old new result told opens is).0 in
-    (λ i. record {
-      play = ap (λ (v : Fixed (PlayChannelOf B)). play_books_of (fixed_items v)) o.others i;
-      recording = (o.begins.books ∙ ap (λ (found : Option ℕ). books_begun found (record_begun settings) (record_books old)) least) i;
-      mapped = ap (λ (v : Fixed (MapChannelOf B)). map_books_of (fixed_items v)) o.mapped i;
-      descriptors = ap (λ (d : Descriptors). d.held.value) set i;
-      groups = ap (λ (d : Descriptors). d.groups) set i;
-      mixer = opens.output.mixer_same i;
-      handed = opens.output.handed_same i;
-      mixed = opens.output.mixed_same i;
-    })
-    ∙ opened-desk Record (desk_with old before) fd settings place none least
+    rebooked old new _ after _ _ _ opens.output set (ap (λ (v : Fixed (PlayChannelOf B)). play_books_of (fixed_items v)) o.others)
+    (o.begins.books ∙ ap (λ (found : Option ℕ). books_begun found (record_begun settings) (record_books old)) least) (ap (λ (v : Fixed (MapChannelOf B)). map_books_of (fixed_items v)) o.mapped)
+    ∙ opened-desk Record (desk_with old before) fd settings (slot_place old.device.play_slots Record told) none least
 opened-turn {B} kind kept filters settings Map old new result told fd before after opens is none set =
     let o = opens.mapped refl in
-    let place = slot_place old.device.play_slots Map told in
     let least = (opened-least kind kept filters settings Map old new result told opens is).0 in
-    (λ i. record {
-      play = ap (λ (v : Fixed (PlayChannelOf B)). play_books_of (fixed_items v)) o.others i;
-      recording = ap (λ (v : Fixed (RecordChannelOf B)). record_books_of (fixed_items v)) o.recording i;
-      mapped = (o.begins.books ∙ ap (λ (found : Option ℕ). books_begun found (map_begun settings) (map_books old)) least) i;
-      descriptors = ap (λ (d : Descriptors). d.held.value) set i;
-      groups = ap (λ (d : Descriptors). d.groups) set i;
-      mixer = opens.output.mixer_same i;
-      handed = opens.output.handed_same i;
-      mixed = opens.output.mixed_same i;
-    })
-    ∙ opened-desk Map (desk_with old before) fd settings place none least
+    rebooked old new _ after _ _ _ opens.output set (ap (λ (v : Fixed (PlayChannelOf B)). play_books_of (fixed_items v)) o.others) (ap (λ (v : Fixed (RecordChannelOf B)). record_books_of (fixed_items v)) o.recording)
+    (o.begins.books ∙ ap (λ (found : Option ℕ). books_begun found (map_begun settings) (map_books old)) least)
+    ∙ opened-desk Map (desk_with old before) fd settings (slot_place old.device.play_slots Map told) none least
 
 -- and so is the reply
 pub opened-reply : {B : Type 0} (kind : B → Kind) (kept : B → Kept) (filters : Filters) (settings : Settings) (way : Way) (old new : ParentOf B) (result : Result ℕ Errno) (told fd : ℕ) (before : Descriptors)

@@ -4,6 +4,7 @@ use Rattle.std.specs.Prelude.{IsOk, is_some, not}
 use Rattle.std.proofs.lemmas.List.{length-map}
 use Rattle.pcm_oss.specs.declared.event.Way.{Way}
 use Rattle.pcm_oss.specs.declared.event.TheConstants.{SLOTS}
+use Rattle.pcm_fixed.specs.Fixed.{fixed_len}
 use Rattle.pcm_fixed.proofs.Items.{items-count}
 use Rattle.pcm_oss.specs.declared.event.Way.TheVariants.{Play, Record, Map}
 use Rattle.pcm_oss.specs.declared.reply.Answer.{Answer}
@@ -173,14 +174,33 @@ map-there {B = B} parent descriptors fd held h e is =
     let there = slot_there Map parent descriptors fd held h e is in
     omega (arith, length-map (map_channels parent) (λ (c : MapChannelOf B). c.book))
 
+-- the slot that a descriptor is asked for is there
+pub play-found : {B : Type 0} (parent : ParentOf B) (descriptors : Descriptors) (fd slot : ℕ) → HoldApart (desk_with parent descriptors) → slot_of Play (held_by (desk_with parent descriptors) fd) ≡ Ok slot → slot < length (play_channels parent)
+play-found parent descriptors fd slot h e = play-there parent descriptors fd (channel_of Play slot) h (slot-is Play (held_by (desk_with parent descriptors) fd) slot e) refl
+
+pub record-found : {B : Type 0} (parent : ParentOf B) (descriptors : Descriptors) (fd slot : ℕ) → HoldApart (desk_with parent descriptors) → slot_of Record (held_by (desk_with parent descriptors) fd) ≡ Ok slot → slot < length (record_channels parent)
+record-found parent descriptors fd slot h e = record-there parent descriptors fd (channel_of Record slot) h (slot-is Record (held_by (desk_with parent descriptors) fd) slot e) refl
+
+pub map-found : {B : Type 0} (parent : ParentOf B) (descriptors : Descriptors) (fd slot : ℕ) → HoldApart (desk_with parent descriptors) → slot_of Map (held_by (desk_with parent descriptors) fd) ≡ Ok slot → slot < length (map_channels parent)
+map-found parent descriptors fd slot h e = map-there parent descriptors fd (channel_of Map slot) h (slot-is Map (held_by (desk_with parent descriptors) fd) slot e) refl
+
+-- and so is the one that it holds
+pub held-there : {B : Type 0} (parent : ParentOf B) (descriptors : Descriptors) (fd : ℕ) (held : Held) → HoldApart (desk_with parent descriptors) → held_by (desk_with parent descriptors) fd ≡ Some held
+    → (held.way ≡ Play → held.slot < fixed_len parent.channels) × (held.way ≡ Record → held.slot < fixed_len parent.recorders) × (held.way ≡ Map → held.slot < fixed_len parent.maps)
+held-there parent descriptors fd held h e = (
+  λ is. (let there = play-there parent descriptors fd held h e is in omega (arith, there, items-count parent.channels)),
+  λ is. (let there = record-there parent descriptors fd held h e is in omega (arith, there, items-count parent.recorders)),
+  λ is. (let there = map-there parent descriptors fd held h e is in omega (arith, there, items-count parent.maps)),
+)
+
 -- there are few slots of each way
 pub held-few : {B : Type 0} (parent : ParentOf B) (descriptors : Descriptors) (fd : ℕ) (held : Held) → HoldApart (desk_with parent descriptors) → held_by (desk_with parent descriptors) fd ≡ Some held → held.slot < SLOTS
 held-few parent descriptors fd held h e = at held.way refl
   where
     at : (way : Way) → held.way ≡ way → held.slot < SLOTS
-    at Play is = let there = play-there parent descriptors fd held h e is in omega (arith, there, items-count parent.channels, parent.slots, parent.slots_within)
-    at Map is = let there = map-there parent descriptors fd held h e is in omega (arith, there, items-count parent.maps, parent.maps_count, parent.slots_within)
-    at Record is = let there = record-there parent descriptors fd held h e is in omega (arith, there, items-count parent.recorders, parent.recorders_count, parent.recorders_within)
+    at Play is = let below = (held-there parent descriptors fd held h e).0 is in omega (arith, below, parent.slots, parent.slots_within)
+    at Record is = let below = (held-there parent descriptors fd held h e).1 is in omega (arith, below, parent.recorders_count, parent.recorders_within)
+    at Map is = let below = (held-there parent descriptors fd held h e).2 is in omega (arith, below, parent.maps_count, parent.slots_within)
 
 -- ---- channels that play
 
@@ -310,12 +330,6 @@ bytes_read-held device desk bytes count found held book e is same =
     ap (bytes_read device desk bytes count) e
     ∙ ap (λ (w : Way). channel_read count (by_way w (Playing (play_at device desk held.slot)) (Recording (record_at device desk held.slot)) (Mapped (map_at device desk held.slot))) (bytes held.slot)) is
     ∙ ap (λ (b : RecordBook). take (min count (record_fill_of b)) (drop b.read (bytes held.slot))) (sym same)
-
--- what holds for each way holds
-pub either-way : {X : Type 0} (way : Way) → (way ≡ Play → X) → (way ≡ Record → X) → (way ≡ Map → X) → X
-either-way Play play recording mapped = play refl
-either-way Record play recording mapped = recording refl
-either-way Map play recording mapped = mapped refl
 
 -- a close of a channel, which leaves its group first, and then its descriptor
 pub closes-held : (device : DeviceSeen) (desk : Desk) (fd : ℕ) (held : Held) → held_by desk fd ≡ Some held

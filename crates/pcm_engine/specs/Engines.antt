@@ -33,7 +33,7 @@ use Rattle.pcm_engine.specs.Desks.{desk_with}
 use Rattle.pcm_record.specs.Channels.{IsRecordReady}
 use Rattle.pcm_map.specs.Channels.{IsMapReady}
 use Rattle.pcm_engine.specs.Stands.{PartsStand, RecordersStand}
-use Rattle.pcm_engine.specs.Steps.{BusMoves, ChannelsMove, MapsMove, RecordersMove, bytes_answered, front_taken}
+use Rattle.pcm_engine.specs.Steps.{bytes_answered, front_taken}
 use Rattle.pcm_vchan.specs.Parents.{HasBus, map_channels, play_channels, record_channels}
 use Rattle.pcm_vchan.specs.Slots.{AllRecordStand}
 
@@ -135,26 +135,6 @@ samples_most engine event = samples_asked engine.parent.device.settings.layout e
 -- those that are at hand in an engine
 abbrev pub samples_at_hand : {B : Type 0} → EngineOf B → Event → List ℤ
 samples_at_hand engine event = take (samples_most engine event) (fixed_items engine.captured)
-
--- what it moves of the channels that play
-abbrev pub StepMoves : {B : Type 0} → (B → Kind) → (B → Kept) → List ℕ → Event → EngineOf B → EngineOf B → Type 0
-StepMoves kind kept bytes event old new =
-    ChannelsMove kind kept (device_of old) bytes old.parent.handed event (play_channels old.parent) (play_channels new.parent)
-
--- and of those that record
-abbrev pub StepCaptures : {B : Type 0} → (B → Kind) → (B → Kept) → List ℤ → Event → EngineOf B → EngineOf B → Type 0
-StepCaptures kind kept samples event old new =
-    RecordersMove kind kept (device_of old) samples event (record_channels old.parent) (record_channels new.parent)
-
--- and of the mapped ones
-abbrev pub StepMaps : {B : Type 0} → (B → Kind) → (B → Kept) → List ℕ → Event → EngineOf B → EngineOf B → Type 0
-StepMaps kind kept bytes event old new =
-    MapsMove kind kept old.tables old.parent.device bytes (desk_of old) event (map_channels old.parent) (map_channels new.parent)
-
--- and of its bus and the device's ring, whatever bytes its channels stand for
-abbrev pub StepTurns : {B : Type 0} → (B → Kept) → Event → EngineOf B → EngineOf B → Type 0
-StepTurns kept event old new =
-    BusMoves kept (device_of old) old.parent.handed old.parent.mixer event (play_channels old.parent) (map_channels old.parent) old.parent.bus.chain new.parent.bus.chain old.parent.ring.bytes new.parent.ring.bytes
 
 -- ---- what holds of every engine
 

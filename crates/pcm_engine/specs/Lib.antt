@@ -1,8 +1,10 @@
 pub mod Descriptors
 pub mod Desks
+pub mod Invariants
 pub mod Answered
 pub mod Brought
 pub mod Steps
+pub mod Applied
 pub mod Life
 pub mod Stands
 pub mod Engines

@@ -10,11 +10,10 @@ ghost use Rattle.pcm_oss.specs.Replies.{bytes_due};
 ghost use Rattle.pcm_oss.specs.declared.reply.TheConstants.{REPLY_BYTES};
 ghost use Rattle.pcm_desk.specs.declared.limits.TheConstants.{DESCRIPTORS, READ_BYTES};
 ghost use Rattle.pcm_desk.specs.Own.{HoldApart};
-ghost use Rattle.pcm_bus.specs.Slots.{MapAreOf, PlayAreOf};
-ghost use Rattle.pcm_vchan.specs.Slots.{RecordAreOf};
 ghost use Rattle.pcm_vchan.specs.Lending.{LendsMapAt};
-ghost use Rattle.pcm_vchan.specs.Parents.{map_channels, play_channels, record_channels, AreClosable, AreServed, EachMapKeeps, EachPlayMoves, EachRecordMoves, KeepsOutput, TotalsFit};
-ghost use Rattle.pcm_engine.specs.Answered.{AnswersBy, CanBeAsked, LeavesClosed};
+ghost use Rattle.pcm_vchan.specs.Parents.{map_channels, play_channels, untouched, AreClosable, AreServed, TotalsFit};
+ghost use Rattle.pcm_engine.specs.Answered.{AnswersBy, CanBeAsked, Leaves};
+ghost use Rattle.pcm_engine.specs.Invariants.{AreOwn};
 ghost use Rattle.pcm_engine.specs.Desks.{front_due, close_call, desk_with, ioctl_call, open_call, poke_call, read_call, write_call, Closes, ClosesHeld, ReadsKept, Replies, TakesTurn, TakesTurnAt};
 ghost use Rattle.pcm_engine.specs.Steps.{poked_by};
 
@@ -58,16 +57,12 @@ pub fn write<B: Feeder>(
 ) -> Result<Answer, Errno>
     requires fd { fd < DESCRIPTORS }
     requires apart { HoldApart (desk_with parent.old descriptors.now) }
-    requires own { PlayAreOf parent.old.device (play_channels parent.old) }
+    requires own { AreOwn parent.old }
     requires count { All (λ c. c.book.written + length bytes.now < 2 ^ 64) (play_channels parent.old) }
     ensures silent { bytes_due result ≡ 0 }
-    ensures own { PlayAreOf parent.new.device (play_channels parent.new) }
-    ensures recorders { parent.new.recorders ≡ parent.old.recorders }
-    ensures maps { parent.new.maps ≡ parent.old.maps }
-    ensures output { KeepsOutput parent.old parent.new }
     ensures refused { OnErr result (parent.new ≡ parent.old) }
     ensures turn { TakesTurnAt here (write_call fd (length bytes.now)) parent.old parent.new descriptors.now result }
-    ensures channels { (filters : Filters) → EachPlayMoves B.kind B.kept filters bytes.now 0 parent.old parent.new }
+    ensures leaves { (filters : Filters) → Leaves B.kind B.kept filters bytes.now untouched parent.old parent.new }
 {
     let slot = descriptors.slot_of(fd, Way::Play)?;
     parent.play(slot).write(bytes, here)
@@ -83,15 +78,11 @@ pub fn poke<B: Feeder>(
 ) -> Result<Answer, Errno>
     requires fd { fd < DESCRIPTORS }
     requires apart { HoldApart (desk_with parent.old descriptors.now) }
-    requires maps_own { MapAreOf parent.old.device (map_channels parent.old) }
+    requires own { AreOwn parent.old }
     ensures silent { bytes_due result ≡ 0 }
-    ensures maps_own { MapAreOf parent.new.device (map_channels parent.new) }
-    ensures channels { parent.new.channels ≡ parent.old.channels }
-    ensures recorders { parent.new.recorders ≡ parent.old.recorders }
-    ensures output { KeepsOutput parent.old parent.new }
     ensures refused { OnErr result (parent.new ≡ parent.old) }
     ensures turn { TakesTurn (poke_call fd offset (length bytes.now)) parent.old parent.new descriptors.now result }
-    ensures maps { (filters : Filters) → EachMapKeeps B.kind B.kept filters
+    ensures leaves { (filters : Filters) → Leaves B.kind B.kept filters []
         (poked_by fd offset bytes.now (desk_with parent.old descriptors.now)) parent.old parent.new }
 {
     let slot = descriptors.slot_of(fd, Way::Map)?;
@@ -107,17 +98,13 @@ fn read<B: Feeder>(
 ) -> Result<Answer, Errno>
     requires fd { fd < DESCRIPTORS }
     requires apart { HoldApart (desk_with parent.old descriptors.now) }
-    requires recorders_own { RecordAreOf parent.old.device (record_channels parent.old) }
-    ensures recorders_own { RecordAreOf parent.new.device (record_channels parent.new) }
-    ensures channels { parent.new.channels ≡ parent.old.channels }
-    ensures maps { parent.new.maps ≡ parent.old.maps }
-    ensures output { KeepsOutput parent.old parent.new }
+    requires own { AreOwn parent.old }
     ensures refused { OnErr result (parent.new ≡ parent.old) }
     ensures turn { TakesTurn (read_call fd (length out.old)) parent.old parent.new descriptors.now result }
     ensures within { bytes_due result ≤ length out.old }
     ensures length { length out.new ≡ length out.old }
     ensures bytes { ReadsKept B.kept parent.old descriptors.now fd (length out.old) (front_due result out.new) }
-    ensures recorders { (filters : Filters) → EachRecordMoves B.kind B.kept filters [] 0 parent.old parent.new }
+    ensures leaves { (filters : Filters) → Leaves B.kind B.kept filters [] untouched parent.old parent.new }
 {
     let slot = descriptors.slot_of(fd, Way::Record)?;
     parent.recorder(slot).read(out)
@@ -137,15 +124,11 @@ pub fn answer_read<B: Feeder>(
     requires few { len ≤ READ_BYTES }
     requires room { length bytes.old ≡ REPLY_BYTES }
     requires apart { HoldApart (desk_with parent.old descriptors.now) }
-    requires recorders_own { RecordAreOf parent.old.device (record_channels parent.old) }
-    ensures recorders_own { RecordAreOf parent.new.device (record_channels parent.new) }
-    ensures channels { parent.new.channels ≡ parent.old.channels }
-    ensures maps { parent.new.maps ≡ parent.old.maps }
-    ensures output { KeepsOutput parent.old parent.new }
+    requires own { AreOwn parent.old }
     ensures refused { IsErr reply.new.result → parent.new ≡ parent.old }
     ensures turn { TakesTurn (read_call fd len) parent.old parent.new descriptors.now reply.new.result }
     ensures bytes { ReadsKept B.kept parent.old descriptors.now fd len reply.new.bytes }
-    ensures recorders { (filters : Filters) → EachRecordMoves B.kind B.kept filters [] 0 parent.old parent.new }
+    ensures leaves { (filters : Filters) → Leaves B.kind B.kept filters [] untouched parent.old parent.new }
 {
     let answer = read(parent, descriptors, fd, &mut bytes[..len as usize]);
     reply.keep(answer, bytes);
@@ -186,7 +169,7 @@ pub fn close<B: Feeder>(
     requires closable { AreClosable B.kind parent.old }
     requires count { TotalsFit parent.old }
     ensures silent { bytes_due result ≡ 0 }
-    ensures closed { LeavesClosed B.kind B.kept parent.old parent.new }
+    ensures leaves { (filters : Filters) → Leaves B.kind B.kept filters [] untouched parent.old parent.new }
     ensures refused { OnErr result ((parent.new ≡ parent.old) × (descriptors.new ≡ descriptors.old)) }
     ensures desk { Closes B.kind B.kept here fd parent.old descriptors.old parent.new descriptors.new }
     ensures reply { Replies (close_call fd) parent.old descriptors.old result }
@@ -206,7 +189,7 @@ fn close_channel<B: Feeder>(parent: &mut ParentOf<B>, held: Held, here: Here) ->
     requires closable { AreClosable B.kind parent.old }
     requires count { TotalsFit parent.old }
     ensures answer { result ≡ Answer.Done }
-    ensures closed { LeavesClosed B.kind B.kept parent.old parent.new }
+    ensures leaves { (filters : Filters) → Leaves B.kind B.kept filters [] untouched parent.old parent.new }
     ensures desk { ClosesHeld B.kind B.kept here held parent.old parent.new }
 {
     match held.way {

@@ -1,18 +1,14 @@
 //! The engine and its events.
 
-ghost use Rattle.std.specs.Prelude.{◌≡◌, [], ◌+◌, ◌*◌, ◌≤◌, length, take, drop, IfOk, IsErr};
+ghost use Rattle.std.specs.Prelude.{◌≡◌, [], ◌+◌, ◌*◌, ◌≤◌, length, take, drop, IfOk};
 ghost use Rattle.pcm_fixed.specs.Fixed.{fixed_len};
 ghost use Rattle.pcm_engine.specs.declared.limits.TheConstants.{LIFE};
 ghost use Rattle.pcm_desk.specs.Events.{Fits, bytes_handed, frames_taken};
 ghost use Rattle.pcm_desk.specs.Device.{seen};
-ghost use Rattle.pcm_desk.specs.Desk.{after};
-ghost use Rattle.pcm_desk.specs.Own.{HoldApart};
-ghost use Rattle.pcm_vchan.specs.Parents.{map_channels, play_channels, record_channels, HasBus, HasRacks};
-ghost use Rattle.pcm_bus.specs.Slots.{MapAreOf, PlayAreOf};
-ghost use Rattle.pcm_vchan.specs.Slots.{RecordAreOf};
+ghost use Rattle.pcm_vchan.specs.Parents.{HasRacks};
 ghost use Rattle.pcm_desk.proofs.Props.{hold_props};
-ghost use Rattle.pcm_engine.specs.Desks.{desk_with};
-ghost use Rattle.pcm_engine.specs.Life.{KeepsPace};
+ghost use Rattle.pcm_engine.specs.Applied.{Applied};
+ghost use Rattle.pcm_engine.specs.Invariants.{AreInOrder};
 ghost use Rattle.pcm_oss.specs.Replies.{bytes_due};
 ghost use Rattle.pcm_oss.specs.declared.reply.TheConstants.{REPLY_BYTES};
 ghost use Rattle.pcm_format.specs.Layouts.{channels_of};
@@ -39,12 +35,7 @@ pub struct EngineOf<B> {
     pub(crate) descriptors: Descriptors,
     captured: Fixed<i32>,
     answered: Fixed<u8>,
-    ghost own: { PlayAreOf parent.device (play_channels parent) },
-    ghost recorders_own: { RecordAreOf parent.device (record_channels parent) },
-    ghost maps_own: { MapAreOf parent.device (map_channels parent) },
-    ghost apart: { HoldApart (desk_with parent descriptors) } by { Prim.hlevel hold_props },
-    ghost pace: { KeepsPace (desk_with parent descriptors) },
-    ghost life: { parent.handed ≤ LIFE },
+    ghost order: { AreInOrder parent descriptors } by { Prim.hlevel hold_props },
     ghost captured_size: { fixed_len captured ≡ parent.device.ring_frames * channels_of parent.device.settings.layout },
     ghost answered_size: { fixed_len answered ≡ REPLY_BYTES },
 }
@@ -56,7 +47,7 @@ impl<B: Feeder> EngineOf<B> {
     ghost use Rattle.pcm_desk.specs.Device.{IsInLimits, device_settings};
     ghost use Rattle.pcm_engine.specs.Brought.{bytes_asked, padded, IsAllowed};
     ghost use Rattle.pcm_feeder.specs.Racks.{AreRacks, list_of};
-    ghost use Rattle.pcm_engine.specs.Engines.{AnswersKept, AreReady, HasStepped, IsUnchanged, Stands, StepCaptures, StepMaps, StepMoves, StepTurns, StepsAs, StepsAsCalled, desk_of, device_of, samples_at_hand, samples_most};
+    ghost use Rattle.pcm_engine.specs.Engines.{AreReady, HasStepped, Stands, StepsAs, StepsAsCalled, device_of, samples_at_hand, samples_most};
 
     /// The engine of a device with its filters, before its first event. Its channels pick their stages from the racks, one rack a slot; after
     /// a refusal the racks are dropped. All memory of the engine is taken here.
@@ -112,7 +103,7 @@ impl<B: Feeder> EngineOf<B> {
     {
         let layout = self.parent.device.settings.layout;
         load_brought(layout, event, pool, self.parent.handed, &mut self.captured);
-        self.answer(event, bytes_brought(event, pool), out, reply)
+        self.apply(event, bytes_brought(event, pool), out, reply)
     }
 
     /// Steps through one event whose bytes the caller has, and what is captured: samples at 32 bits, channel by channel, frame by frame, and silence
@@ -140,7 +131,7 @@ impl<B: Feeder> EngineOf<B> {
         let layout = self.parent.device.settings.layout;
         let count = samples_asked(layout, event);
         pad(samples, count, &mut self.captured);
-        self.answer(event, bytes, out, reply)
+        self.apply(event, bytes, out, reply)
     }
 
     /// The device.
@@ -150,47 +141,16 @@ impl<B: Feeder> EngineOf<B> {
         &self.parent.device
     }
 
-    // One event with the bytes that it brings, whose samples are at hand.
-    fn answer(&mut self, event: &Event, bytes: &[u8], out: &mut [u8], reply: &mut ReplyBuf) -> usize
-        requires within { IsAllowed (device_of self.old) event.now }
-        requires bytes { length bytes.now ≡ bytes_asked event.now }
-        requires room { bytes_handed (device_of self.old) event.now ≤ length out.old }
-        requires life { self.old.parent.handed + frames_taken event.now ≤ LIFE }
-        requires ready { AreReady B.kind B.kept self.old }
-        ensures stepped { HasStepped B.kind B.kept event.now self.old self.new
-            reply.new result out.old out.new }
-        ensures called { StepsAsCalled B.kept event.now bytes.now (samples_at_hand self.old event.now)
-            self.old self.new reply.new (take result out.new) }
-    {
-        self.apply(event, bytes, out, reply)
-    }
-
-    // One event on the parts, as a step. The reply, and how many device bytes stand at the front of `out`.
+    // Applies one event with the bytes that it brings, whose samples are at hand. Returns how many device bytes stand at the front of `out`.
     fn apply(&mut self, event: &Event, bytes: &[u8], out: &mut [u8], reply: &mut ReplyBuf) -> usize
         requires within { IsAllowed (device_of self.old) event.now }
         requires bytes { length bytes.now ≡ bytes_asked event.now }
         requires room { bytes_handed (device_of self.old) event.now ≤ length out.old }
         requires life { self.old.parent.handed + frames_taken event.now ≤ LIFE }
         requires ready { AreReady B.kind B.kept self.old }
-        ensures device { self.new.parent.device ≡ self.old.parent.device }
         ensures tables { self.new.tables ≡ self.old.tables }
-        ensures slots { length (play_channels self.new.parent)
-            ≡ length (play_channels self.old.parent) }
-        ensures recorders_slots { length (record_channels self.new.parent)
-            ≡ length (record_channels self.old.parent) }
-        ensures maps_slots { length (map_channels self.new.parent)
-            ≡ length (map_channels self.old.parent) }
-        ensures desk { desk_of self.new
-            ≡ (after (device_of self.old) (desk_of self.old) event.now).desk }
-        ensures reply { reply.new.result
-            ≡ (after (device_of self.old) (desk_of self.old) event.now).reply }
-        ensures bytes { AnswersKept B.kept event.now self.old reply.new.bytes }
-        ensures refused { IsErr reply.new.result → IsUnchanged self.old self.new }
-        ensures channels { StepMoves B.kind B.kept bytes.now event.now self.old self.new }
-        ensures recorders { StepCaptures B.kind B.kept (samples_at_hand self.old event.now) event.now self.old self.new }
-        ensures maps { StepMaps B.kind B.kept bytes.now event.now self.old self.new }
-        ensures bus { HasBus B.kept (device_of self.old) self.new.parent }
-        ensures turns { StepTurns B.kept event.now self.old self.new }
+        ensures applied { Applied B.kind B.kept self.old.tables event.now bytes.now (samples_at_hand self.old event.now)
+            self.old.parent self.old.descriptors self.new.parent self.new.descriptors reply.new }
         ensures count { result ≡ bytes_handed (device_of self.old) event.now }
         ensures out { take result out.new ≡ take result self.old.parent.ring.bytes }
         ensures rest { drop result out.new ≡ drop result out.old }

@@ -40,7 +40,7 @@ held_few {B} engine fd (Some held) e =
     omega (arith, slots, within, items-count engine.parent.channels, length-map (play_channels engine.parent) (λ (channel : PlayChannelOf B). channel.book)) in
     subst (λ (n : ℕ). n < 2 ^ 32)
     (sym (slot_by held.way _ _ _ (slot_number (length (desk_of engine).play) held.way held.slot) refl refl refl))
-    (number_few held.way (length (desk_of engine).play) held.slot count (held-few engine.parent engine.descriptors fd held engine.apart e))
+    (number_few held.way (length (desk_of engine).play) held.slot count (held-few engine.parent engine.descriptors fd held engine.order.apart e))
 
 pub status-few : {B : Type 0} (engine : EngineOf B) (fd : ℕ) (status : ChannelStatus) → client_status (device_of engine) (desk_of engine) fd ≡ Some status → status.slot < 2 ^ 32
 status-few engine fd status is = subst (λ (found : Option ChannelStatus). slot_in found < 2 ^ 32) is (held_few engine fd (held_by (desk_of engine) fd) refl)

@@ -1,4 +1,4 @@
-use Rattle.std.proofs.Common.{rules, sym, ap, ◌∙◌, subst}
+use Rattle.std.proofs.Common.{rules, refl, sym, ap, ◌∙◌, subst}
 use Rattle.pcm_oss.specs.declared.event.Event.TheVariants.{Ioctl}
 use Rattle.pcm_desk.specs.Device.{seen}
 use Rattle.pcm_desk.specs.Desk.{DeskTurn, held_by}
@@ -6,18 +6,18 @@ use Rattle.pcm_desk.specs.Own.{HoldApart}
 use Rattle.pcm_desk.proofs.Apart.{regrouped}
 use Rattle.pcm_engine.specs.declared.descriptors.Descriptors.{Descriptors}
 use Rattle.pcm_engine.specs.Desks.{channel_asked, desk_with, request_call}
-use Rattle.pcm_engine.proofs.Answering.{answers-nothing}
+use Rattle.pcm_engine.proofs.Answering.{answers-refusal}
 use Rattle.pcm_engine.proofs.Grouping.{handed-on, request-asks, request-refused}
 use Rattle.pcm_engine.proofs.Turning.{held-few, holding-is, holding-not}
 use Rattle.pcm_engine.proofs.grouped.ioctl.Goals as goal
 
 pub returns-in_err-held : goal.returns-in_err-held
 returns-in_err-held g c =
-    let device = seen c.args.tables.now c.args.parent.now.device in
     let desk = desk_with c.args.parent.now c.args.descriptors.now in
-    let none = holding-not device desk (Ioctl c.args.fd c.args.request) (held_by desk c.args.fd) c.in_err-held.field-0.0 (sym c.holding.ensures ∙ c.in_err-held.was) in
-    answers-nothing g.B.Feeder.kind g.B.Feeder.kept c.args.tables.now (request_call c.args.fd c.args.request) c.args.parent.now c.args.descriptors.now _ c.requires.able.served (search rules)
-    (sym (ap (λ (t : DeskTurn). t.desk) none)) (handed-on c.from_residual.result c.in_err-held.field-0.0 c.from_residual.ensures.0 c.from_residual.ensures.1 ∙ sym (ap (λ (t : DeskTurn). t.reply) none))
+    let errno = c.in_err-held.field-0.0 in
+    answers-refusal g.B.Feeder.kind g.B.Feeder.kept c.args.tables.now (request_call c.args.fd c.args.request) c.args.parent.now c.args.descriptors.now _ errno c.requires.able.served
+    (holding-not (seen c.args.tables.now c.args.parent.now.device) desk (Ioctl c.args.fd c.args.request) (held_by desk c.args.fd) errno (sym c.holding.ensures ∙ c.in_err-held.was))
+    (handed-on c.from_residual.result errno c.from_residual.ensures.0 c.from_residual.ensures.1)
 
 pub refusal-requires : goal.refusal-requires
 refusal-requires g c =
@@ -26,13 +26,11 @@ refusal-requires g c =
 
 pub returns-in-Some : goal.returns-in-Some
 returns-in-Some g c =
-    let device = seen c.args.tables.now c.args.parent.now.device in
     let desk = desk_with c.args.parent.now c.args.descriptors.now in
     let held = c.in_ok-held.held in
     let e = holding-is (held_by desk c.args.fd) held (sym c.holding.ensures ∙ c.in_ok-held.was) in
-    let refused = request-refused device desk c.args.fd c.args.request (held_by desk c.args.fd) held c.in-Some.errno e (sym c.refusal.ensures ∙ c.in-Some.is) in
-    answers-nothing g.B.Feeder.kind g.B.Feeder.kept c.args.tables.now (request_call c.args.fd c.args.request) c.args.parent.now c.args.descriptors.now _ c.requires.able.served (search rules)
-    (sym (ap (λ (t : DeskTurn). t.desk) refused)) (sym (ap (λ (t : DeskTurn). t.reply) refused))
+    answers-refusal g.B.Feeder.kind g.B.Feeder.kept c.args.tables.now (request_call c.args.fd c.args.request) c.args.parent.now c.args.descriptors.now _ c.in-Some.errno c.requires.able.served
+    (request-refused (seen c.args.tables.now c.args.parent.now.device) desk c.args.fd c.args.request (held_by desk c.args.fd) held c.in-Some.errno e (sym c.refusal.ensures ∙ c.in-Some.is)) refl
 
 pub leave_by-requires : goal.leave_by-requires
 leave_by-requires g c =
@@ -54,14 +52,8 @@ returns g c =
     let left = λ (d : Descriptors). channel_asked device (desk_with c.args.parent.now d) c.args.request (held_by (desk_with c.args.parent.now d) c.args.fd) in
     record {
       silent = c.ask.ensures.silent;
-      own = c.ask.ensures.own;
-      recorders_own = c.ask.ensures.recorders_own;
-      maps_own = c.ask.ensures.maps_own;
-      output = c.ask.ensures.output;
       refused = search rules;
       desk = c.ask.ensures.desk ∙ ap (λ (d : Descriptors). (left d).desk) c.leave_by.ensures ∙ ap (λ (t : DeskTurn). t.desk) asks;
       reply = c.ask.ensures.reply ∙ ap (λ (d : Descriptors). (left d).reply) c.leave_by.ensures ∙ ap (λ (t : DeskTurn). t.reply) asks;
-      channels = c.ask.ensures.channels;
-      recorders = c.ask.ensures.recorders;
-      maps = c.ask.ensures.maps;
+      leaves = c.ask.ensures.leaves;
     }

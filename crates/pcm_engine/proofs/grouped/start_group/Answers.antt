@@ -1,24 +1,20 @@
-use Rattle.std.proofs.Common.{rules, get_or, sym, ap, ◌∙◌, subst}
+use Rattle.std.proofs.Common.{rules, sym, ap, ◌∙◌}
 use Rattle.pcm_group.specs.declared.sync_groups.Groups.{Groups}
 use Rattle.pcm_group.specs.Groups.{all_in, change_in, dissolved, is_used}
 use Rattle.pcm_desk.specs.declared.here.Here.{Here}
 use Rattle.pcm_desk.specs.Device.{seen}
 use Rattle.pcm_desk.specs.Channels.{play_starting, record_starting}
-use Rattle.pcm_desk.specs.Desk.{DeskTurn, held_by}
+use Rattle.pcm_desk.specs.Desk.{DeskTurn, desk_here, held_by}
 use Rattle.pcm_desk.specs.PlayBooks.{play_is_ready}
 use Rattle.pcm_fixed.specs.declared.fixed.Fixed.{Fixed}
 use Rattle.pcm_fixed.specs.Fixed.{fixed_items}
 use Rattle.pcm_map.specs.declared.channel.MapChannelOf.{MapChannelOf}
-use Rattle.pcm_desk.specs.declared.device.Device.{Device}
-use Rattle.pcm_bus.specs.Slots.{map_books_of, MapAreOf}
-use Rattle.pcm_vchan.specs.Slots.{MapKeeps}
-use Rattle.pcm_vchan.specs.Starts.{EachAt}
-use Rattle.pcm_vchan.specs.Parents.{map_channels, play_books, record_books, untouched}
-use Rattle.pcm_engine.specs.declared.descriptors.Descriptors.{Descriptors}
+use Rattle.pcm_bus.specs.Slots.{map_books_of}
+use Rattle.pcm_vchan.specs.Parents.{play_books, record_books}
 use Rattle.pcm_engine.specs.Desks.{desk_with, start_call}
-use Rattle.pcm_engine.proofs.Answering.{answers-nothing}
+use Rattle.pcm_engine.proofs.Answering.{answers-nothing, map-own, map-stay}
 use Rattle.pcm_engine.proofs.Grouping.{start-done}
-use Rattle.pcm_vchan.proofs.Channels.{map-keeps-nothing}
+use Rattle.pcm_engine.proofs.Opening.{rebooked}
 use Rattle.pcm_engine.proofs.Turning.{holding-is}
 use Rattle.pcm_engine.proofs.grouped.start_group.Goals as goal
 
@@ -41,14 +37,10 @@ returns g c =
     let joins = sym c.may_join.ensures ∙ c.if-not-may_join.false in
     let used = ap (λ (groups : Groups). is_used groups group) (sym c.groups-groups.ensures) ∙ sym c.is_used.ensures ∙ c.if-not-is_used.false in
     let ready = ap (λ (groups : Groups). all_in group play_is_ready groups.play desk.play) (sym c.groups-groups.ensures) ∙ sym c.is_group_ready.ensures ∙ c.if-not-is_group_ready.false in
+    let made = c.start_group.ensures in
+    let served = c.requires.able.served in
     record {
       silent = search rules;
-      own = search rules;
-      recorders_own = search rules;
-      maps_own =
-          subst (λ (v : Fixed (MapChannelOf _)). MapAreOf new.device (fixed_items v)) (sym c.start_group.ensures.maps)
-          (subst (λ (d : Device). MapAreOf d (map_channels parent)) (sym c.start_group.ensures.output.device_same) c.requires.able.served.maps_own);
-      output = search rules;
       refused = search rules;
       desk =
           let play = c.start_group.ensures.books
@@ -58,15 +50,17 @@ returns g c =
           ∙ ap (λ (groups : Groups). change_in group record_starting groups.recording (record_books parent)) c.groups-groups.ensures in
           let mapped = ap (λ (v : Fixed (MapChannelOf _)). map_books_of (fixed_items v)) c.start_group.ensures.maps in
           let groups = c.dissolve.ensures ∙ ap (dissolved group) c.groups-groups.ensures in
-          ap (λ (descriptors : Descriptors). desk_with c.start_group.new.self descriptors) c.regroup.ensures
-          ∙ (λ i. record desk { play = play i; recording = recording i; mapped = mapped i; groups = groups i; mixer = c.start_group.ensures.output.mixer_same i; handed = c.start_group.ensures.output.handed_same i; mixed = c.start_group.ensures.output.mixed_same i })
+          rebooked parent new _ _ _ _ _ made.output c.regroup.ensures play recording mapped
+          ∙ ap (λ (groups : Groups). record desk { play = change_in group (play_starting device (desk_here device desk)) desk.groups.play desk.play; recording = change_in group record_starting desk.groups.recording desk.recording; groups = groups }) groups
           ∙ sym (ap (λ (t : DeskTurn). t.desk) (start-done device desk (held_by desk c.args.fd) c.in_ok-held.held group e joins used ready));
       reply = sym (ap (λ (t : DeskTurn). t.reply) (start-done device desk (held_by desk c.args.fd) c.in_ok-held.held group e joins used ready));
-      channels = search rules;
-      recorders = search rules;
-      maps =
-          subst (λ (v : Fixed (MapChannelOf _)). EachAt (λ slot. MapKeeps g.B.Feeder.kind g.B.Feeder.kept c.args.tables.now (untouched slot)) (map_channels parent) (fixed_items v)) (sym c.start_group.ensures.maps)
-          (λ slot other there. map-keeps-nothing g.B.Feeder.kind g.B.Feeder.kept c.args.tables.now (get_or (map_channels parent) slot other));
+      leaves = record {
+        own = record { playing = made.own; recording = made.recorders_own; mapped = map-own parent new made.output.device_same made.maps served.maps_own };
+        output = made.output;
+        channels = made.channels;
+        recorders = made.recorders;
+        maps = map-stay g.B.Feeder.kind g.B.Feeder.kept c.args.tables.now parent new made.maps;
+      };
     }
 
 pub returns-then-not-may_join : goal.returns-then-not-may_join

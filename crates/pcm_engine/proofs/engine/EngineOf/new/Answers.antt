@@ -24,24 +24,27 @@ use Rattle.pcm_vchan.specs.Parents.{HasBus, map_channels, play_channels, record_
 pub invariant_of-result : goal.invariant_of-result
 invariant_of-result g c =
     let parent = c.in_ok-parent.parent in
+    let made = c.in_ok-parent.ensures in
     record {
-      own = λ slot other there. (c.in_ok-parent.ensures.channels slot other there).device_is ∙ sym c.in_ok-parent.ensures.device;
-      apart = apart-shut _ (λ fd held e. let none : None ≡ Some held = sym (get_or-same 64 fd None) ∙ sym (ap (λ (list : List (Option Held)). get_or list fd None) c.in_ok-descriptors.ensures.held) ∙ e in cc);
-      recorders_own = λ slot other there. (c.in_ok-parent.ensures.recording slot other there).device_is ∙ sym c.in_ok-parent.ensures.device;
-      maps_own = λ slot other there. (c.in_ok-parent.ensures.mapped slot other there).device_is ∙ sym c.in_ok-parent.ensures.device;
-      pace = (let e = c.in_ok-parent.ensures in
-          let parent = c.in_ok-parent.parent in
-          record {
-            playing = All-map (PlayKeepsPace parent.mixed) (λ (channel : PlayChannelOf _). channel.book) (play_channels parent)
-                (λ slot other there. subst (PlayKeepsPace parent.mixed) (sym (e.channels slot other there).book) (record { played = omega arith }));
-            recording = All-map (RecordKeepsPace parent.handed) (λ (channel : RecordChannelOf _). channel.book) (record_channels parent)
-                (λ slot other there. subst (RecordKeepsPace parent.handed) (sym (e.recording slot other there).book) (record { captured = omega arith; kept = omega arith }));
-            mapped = All-map (MapKeepsPace parent.mixed) (λ (channel : MapChannelOf _). channel.book) (map_channels parent)
-                (λ slot other there. subst (MapKeepsPace parent.mixed) (sym (e.mapped slot other there).book) (record { given = omega arith }));
-          });
+      order = record {
+        own = record {
+          playing = λ slot other there. (made.channels slot other there).device_is ∙ sym made.device;
+          recording = λ slot other there. (made.recording slot other there).device_is ∙ sym made.device;
+          mapped = λ slot other there. (made.mapped slot other there).device_is ∙ sym made.device;
+        };
+        apart = apart-shut _ (λ fd held e. let none : None ≡ Some held = sym (get_or-same 64 fd None) ∙ sym (ap (λ (list : List (Option Held)). get_or list fd None) c.in_ok-descriptors.ensures.held) ∙ e in cc);
+        pace = record {
+          playing = All-map (PlayKeepsPace parent.mixed) (λ (channel : PlayChannelOf _). channel.book) (play_channels parent)
+              (λ slot other there. subst (PlayKeepsPace parent.mixed) (sym (made.channels slot other there).book) (record { played = omega arith }));
+          recording = All-map (RecordKeepsPace parent.handed) (λ (channel : RecordChannelOf _). channel.book) (record_channels parent)
+              (λ slot other there. subst (RecordKeepsPace parent.handed) (sym (made.recording slot other there).book) (record { captured = omega arith; kept = omega arith }));
+          mapped = All-map (MapKeepsPace parent.mixed) (λ (channel : MapChannelOf _). channel.book) (map_channels parent)
+              (λ slot other there. subst (MapKeepsPace parent.mixed) (sym (made.mapped slot other there).book) (record { given = omega arith }));
+        };
+        life = omega (arith, made.handed);
+      };
       captured_size = c.new-2.ensures.len ∙ c.in_ok-captured.ensures.len ∙ ap (λ n. c.args.device.ring_frames * n) c.channels.ensures ∙ ap (λ (d : Device). d.ring_frames * channels_of d.settings.layout) (sym c.in_ok-parent.ensures.device);
       answered_size = c.new-3.ensures.len ∙ c.in_ok-answered.ensures.len;
-      life = omega (arith, c.in_ok-parent.ensures.handed);
     }
 
 pub returns-clause-ready : goal.returns-clause-ready

@@ -1,45 +1,18 @@
-use Rattle.std.proofs.Common.{List, ℤ, length, ap, ◌∙◌}
-use Rattle.pcm_engine.proofs.Called.{loaded-called}
+use Rattle.std.proofs.Common.{List, ℕ, ℤ, length, take, ap, ◌∙◌}
+use Rattle.pcm_engine.specs.Engines.{device_of}
+use Rattle.pcm_engine.proofs.Bringing.{allowed-fits}
+use Rattle.pcm_engine.proofs.Called.{loaded-called, steps-as-called}
+use Rattle.pcm_engine.proofs.Stepping.{stepped-applied}
 use Rattle.pcm_engine.proofs.engine.EngineOf.step.Goals as goal
 
-pub returns-clause-told : goal.returns-clause-told
-returns-clause-told g c =
-    let step = c.answer.ensures.called c.args.pool.now c.args.event.now (loaded-called c.args.self.now c.args.pool.now c.args.event.now _ _ c.requires.fits c.requires.captures c.bytes_brought.ensures
-    (c.load_brought.ensures.length ∙ ap (λ (samples : List ℤ). length samples) c.deref_mut.ensures.value) c.load_brought.ensures.loaded) in
+pub returns : goal.returns
+returns g c =
+    let old = c.args.self.now in
+    let event = c.args.event.now in
+    let made = c.apply.ensures in
+    let loaded = loaded-called old c.args.pool.now event _ _ c.requires.fits c.requires.captures c.bytes_brought.ensures
+    (c.load_brought.ensures.length ∙ ap (λ (samples : List ℤ). length samples) c.deref_mut.ensures.value) c.load_brought.ensures.loaded in
     record {
-      stands = λ events s. step.stands events (record { playing = s.playing; recording = s.recording });
-      reply = λ events s. step.reply events (record { playing = s.playing; recording = s.recording });
-      bytes = λ events s. step.bytes events (record { playing = s.playing; recording = s.recording });
-      plain = λ events s unbroken. step.plain events (record { playing = s.playing; recording = s.recording }) unbroken;
-      mapped = λ events slot s. step.mapped events slot (record { playing = s.playing; recording = s.recording });
-      together = λ events fd group s is ok. step.together events fd group (record { playing = s.playing; recording = s.recording }) is ok;
-      areas = λ events s. step.areas events (record { playing = s.playing; recording = s.recording });
-    }
-
--- the samples at hand are no matter to it
-pub returns-clause-stepped : goal.returns-clause-stepped
-returns-clause-stepped g c =
-    let stepped = c.answer.ensures.stepped in
-    let rules = stepped.rules in
-    record {
-      rules = record {
-        device = rules.device;
-        handed = rules.handed;
-        desk = rules.desk;
-        result = rules.result;
-        refused = λ err. (let same = rules.refused err in record { parent_same = same.parent_same; descriptors_same = same.descriptors_same });
-        isolated = rules.isolated;
-        read = rules.read;
-        taken = rules.taken;
-      };
-      ready = stepped.ready;
-      safe = stepped.safe;
-      records_safe = stepped.records_safe;
-      maps_safe = stepped.maps_safe;
-      places = stepped.places;
-      rings = stepped.rings;
-      apart = stepped.apart;
-      members = stepped.members;
-      count = stepped.count;
-      rest = stepped.rest;
+      stepped = stepped-applied g.B.Feeder.kind g.B.Feeder.kept event _ _ old _ _ made.applied made.tables (allowed-fits (device_of old) c.args.pool.now event c.requires.fits) c.requires.ready _ _ _ made.count made.rest;
+      told = steps-as-called g.B.Feeder.kind g.B.Feeder.kept event _ _ old _ _ _ made.applied made.tables (made.out ∙ ap (λ (n : ℕ). take n old.parent.ring.bytes) made.count) c.requires.ready c.args.pool.now event loaded;
     }
