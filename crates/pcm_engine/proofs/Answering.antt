@@ -27,7 +27,7 @@ use Rattle.pcm_vchan.specs.Slots.{MapKeeps, RecordAreOf}
 use Rattle.pcm_vchan.specs.Starts.{EachAt}
 use Rattle.pcm_vchan.proofs.Channels.{each_set, map-keeps-nothing, own_set}
 use Rattle.pcm_engine.specs.declared.descriptors.Descriptors.{Descriptors}
-use Rattle.pcm_engine.specs.Answered.{AnswersBy, Leaves}
+use Rattle.pcm_engine.specs.Answered.{AnswersBy, LeavesParent}
 use Rattle.pcm_engine.specs.Desks.{ChangesBy, RepliesBy, desk_with}
 use Rattle.pcm_engine.specs.Invariants.{AreOwn}
 
@@ -70,7 +70,7 @@ map-stay {B} kind kept filters old new same =
 -- ---- what is left where those of one way changed
 
 pub leaves-playing : {B : Type 0} (kind : B → Kind) (kept : B → Kept) (filters : Filters) (moved : List ℕ) (old new : ParentOf B) → AreOwn old → KeepsOutput old new → new.recorders ≡ old.recorders → new.maps ≡ old.maps
-    → PlayAreOf new.device (play_channels new) → EachPlayMoves kind kept filters moved 0 old new → Leaves kind kept filters moved untouched old new
+    → PlayAreOf new.device (play_channels new) → EachPlayMoves kind kept filters moved 0 old new → LeavesParent kind kept filters moved untouched old new
 leaves-playing kind kept filters moved old new own output recording mapped playing moves = record {
   own = record { playing = playing; recording = record_own old new output.device_same recording own.recording; mapped = map-own old new output.device_same mapped own.mapped };
   output = output;
@@ -80,7 +80,7 @@ leaves-playing kind kept filters moved old new own output recording mapped playi
 }
 
 pub leaves-recording : {B : Type 0} (kind : B → Kind) (kept : B → Kept) (filters : Filters) (old new : ParentOf B) → AreOwn old → KeepsOutput old new → new.channels ≡ old.channels → new.maps ≡ old.maps
-    → RecordAreOf new.device (record_channels new) → EachRecordMoves kind kept filters [] 0 old new → Leaves kind kept filters [] untouched old new
+    → RecordAreOf new.device (record_channels new) → EachRecordMoves kind kept filters [] 0 old new → LeavesParent kind kept filters [] untouched old new
 leaves-recording kind kept filters old new own output playing mapped recording moves = record {
   own = record { playing = play_own old new output.device_same playing own.playing; recording = recording; mapped = map-own old new output.device_same mapped own.mapped };
   output = output;
@@ -90,7 +90,7 @@ leaves-recording kind kept filters old new own output playing mapped recording m
 }
 
 pub leaves-mapping : {B : Type 0} (kind : B → Kind) (kept : B → Kept) (filters : Filters) (writes : ℕ → List ℕ → List ℕ) (old new : ParentOf B) → AreOwn old → KeepsOutput old new → new.channels ≡ old.channels → new.recorders ≡ old.recorders
-    → MapAreOf new.device (map_channels new) → EachMapKeeps kind kept filters writes old new → Leaves kind kept filters [] writes old new
+    → MapAreOf new.device (map_channels new) → EachMapKeeps kind kept filters writes old new → LeavesParent kind kept filters [] writes old new
 leaves-mapping kind kept filters writes old new own output playing recording mapped keeps = record {
   own = record { playing = play_own old new output.device_same playing own.playing; recording = record_own old new output.device_same recording own.recording; mapped = mapped };
   output = output;
@@ -102,14 +102,14 @@ leaves-mapping kind kept filters writes old new own output playing recording map
 -- ---- what is left where one channel was lent
 
 pub leaves-played : {B : Type 0} (kind : B → Kind) (kept : B → Kept) (filters : Filters) (moved : List ℕ) (parent : ParentOf B) (slot : ℕ) (lent new : PlayChannelOf B) → AreOwn parent → slot < length (play_channels parent)
-    → lent ≡ get_or (play_channels parent) slot lent → new.path.device ≡ lent.path.device → PlayMoves kind kept filters moved 0 lent new → Leaves kind kept filters moved untouched parent (with_channel parent slot new)
+    → lent ≡ get_or (play_channels parent) slot lent → new.path.device ≡ lent.path.device → PlayMoves kind kept filters moved 0 lent new → LeavesParent kind kept filters moved untouched parent (with_channel parent slot new)
 leaves-played {B} kind kept filters moved parent slot lent new own there is device moves =
     leaves-playing kind kept filters moved parent (with_channel parent slot new) own (search rules) refl refl
     (own_set (λ (channel : PlayChannelOf B). channel.path.device) parent.device (play_channels parent) slot lent new there is device own.playing)
     (each_set (PlayMoves kind kept filters moved 0) (play_channels parent) slot lent new there is moves (moves-nothing kind kept filters moved 0))
 
 pub leaves-recorded : {B : Type 0} (kind : B → Kind) (kept : B → Kept) (filters : Filters) (parent : ParentOf B) (slot : ℕ) (lent new : RecordChannelOf B) → AreOwn parent → slot < length (record_channels parent)
-    → lent ≡ get_or (record_channels parent) slot lent → new.path.device ≡ lent.path.device → RecordMoves kind kept filters [] 0 lent new → Leaves kind kept filters [] untouched parent (with_recorder parent slot new)
+    → lent ≡ get_or (record_channels parent) slot lent → new.path.device ≡ lent.path.device → RecordMoves kind kept filters [] 0 lent new → LeavesParent kind kept filters [] untouched parent (with_recorder parent slot new)
 leaves-recorded {B} kind kept filters parent slot lent new own there is device moves =
     leaves-recording kind kept filters parent (with_recorder parent slot new) own (search rules) refl refl
     (own_set (λ (channel : RecordChannelOf B). channel.path.device) parent.device (record_channels parent) slot lent new there is device own.recording)
@@ -118,14 +118,14 @@ leaves-recorded {B} kind kept filters parent slot lent new own there is device m
 -- whatever is written into areas
 pub leaves-written : {B : Type 0} (kind : B → Kind) (kept : B → Kept) (filters : Filters) (writes : ℕ → List ℕ → List ℕ) (parent : ParentOf B) (slot : ℕ) (lent new : MapChannelOf B) → AreOwn parent → slot < length (map_channels parent)
     → lent ≡ get_or (map_channels parent) slot lent → new.path.device ≡ lent.path.device → EachMapKeeps kind kept filters writes parent (with_map_channel parent slot new)
-    → Leaves kind kept filters [] writes parent (with_map_channel parent slot new)
+    → LeavesParent kind kept filters [] writes parent (with_map_channel parent slot new)
 leaves-written {B} kind kept filters writes parent slot lent new own there is device keeps =
     leaves-mapping kind kept filters writes parent (with_map_channel parent slot new) own (search rules) refl refl
     (own_set (λ (channel : MapChannelOf B). channel.path.device) parent.device (map_channels parent) slot lent new there is device own.mapped) keeps
 
 -- and where nothing is
 pub leaves-mapped : {B : Type 0} (kind : B → Kind) (kept : B → Kept) (filters : Filters) (parent : ParentOf B) (slot : ℕ) (lent new : MapChannelOf B) → AreOwn parent → slot < length (map_channels parent)
-    → lent ≡ get_or (map_channels parent) slot lent → new.path.device ≡ lent.path.device → MapKeeps kind kept filters (untouched 0) lent new → Leaves kind kept filters [] untouched parent (with_map_channel parent slot new)
+    → lent ≡ get_or (map_channels parent) slot lent → new.path.device ≡ lent.path.device → MapKeeps kind kept filters (untouched 0) lent new → LeavesParent kind kept filters [] untouched parent (with_map_channel parent slot new)
 leaves-mapped kind kept filters parent slot lent new own there is device keeps =
     leaves-written kind kept filters untouched parent slot lent new own there is device
     (each_set (MapKeeps kind kept filters (untouched 0)) (map_channels parent) slot lent new there is keeps (map-keeps-nothing kind kept filters))
@@ -135,7 +135,7 @@ leaves-mapped kind kept filters parent slot lent new own there is device keeps =
 pub output-same : {B : Type 0} (parent : ParentOf B) → KeepsOutput parent parent
 output-same parent = record { device_same = refl; mixer_same = refl; bus_same = refl; ring_same = refl; handed_same = refl; mixed_same = refl; slots_same = refl; recorders_same = refl; maps_same = refl }
 
-pub leaves-nothing : {B : Type 0} (kind : B → Kind) (kept : B → Kept) (filters : Filters) (moved : List ℕ) (parent : ParentOf B) → AreOwn parent → Leaves kind kept filters moved untouched parent parent
+pub leaves-nothing : {B : Type 0} (kind : B → Kind) (kept : B → Kept) (filters : Filters) (moved : List ℕ) (parent : ParentOf B) → AreOwn parent → LeavesParent kind kept filters moved untouched parent parent
 leaves-nothing kind kept filters moved parent own =
     leaves-playing kind kept filters moved parent parent own (output-same parent) refl refl own.playing (play-stay kind kept filters moved parent parent refl)
 

@@ -26,12 +26,12 @@ use Rattle.pcm_vchan.specs.Parents.{HasBus, map_channels, play_channels, record_
 use Rattle.pcm_engine.specs.declared.descriptors.Descriptors.{Descriptors}
 use Rattle.pcm_engine.specs.declared.engine.EngineOf.{EngineOf}
 use Rattle.pcm_engine.specs.declared.limits.TheConstants.{LIFE}
-use Rattle.pcm_engine.specs.Answered.{Leaves}
+use Rattle.pcm_engine.specs.Answered.{LeavesParent}
 use Rattle.pcm_engine.specs.Applied.{Applied, FollowsRules}
 use Rattle.pcm_engine.specs.Brought.{IsAllowed}
 use Rattle.pcm_engine.specs.Desks.{ChangesBy, RepliesBy, desk_with}
-use Rattle.pcm_engine.specs.Engines.{AreReady, desk_of, device_of}
-use Rattle.pcm_engine.specs.Invariants.{AreInOrder, AreOwn}
+use Rattle.pcm_engine.specs.Engines.{AreReady, desk_of, device_of, samples_at_hand}
+use Rattle.pcm_engine.specs.Invariants.{PartsInOrder, AreOwn}
 use Rattle.pcm_engine.specs.Life.{KeepsPace}
 use Rattle.pcm_engine.specs.Steps.{area_written, bytes_answered, bytes_moved}
 use Rattle.pcm_engine.proofs.Answering.{map-stay, play-stay, record-stay}
@@ -46,9 +46,9 @@ hands_some device (Intr n) within = within.0
 hands_some device event within = tt
 
 -- they are after a call that goes by the rules, and leaves every channel to the device
-pub order-after : {B : Type 0} (kind : B → Kind) (kept : B → Kept) (engine : EngineOf B) (event call : Event) (new : ParentOf B) (left : Descriptors) → AreReady kind kept engine → IsAllowed (device_of engine) event
-    → engine.parent.handed + frames_taken event ≤ LIFE → event ≡ call → AreOwn new → desk_with new left ≡ (after (device_of engine) (desk_of engine) call).desk → AreInOrder new left
-order-after kind kept engine event call new left ready within life is own desk =
+pub order-after : {B : Type 0} {kind : B → Kind} {kept : B → Kept} {engine : EngineOf B} {event call : Event} {new : ParentOf B} {left : Descriptors} → AreReady kind kept engine → IsAllowed (device_of engine) event
+    → engine.parent.handed + frames_taken event ≤ LIFE → event ≡ call → AreOwn new → desk_with new left ≡ (after (device_of engine) (desk_of engine) call).desk → PartsInOrder new left
+order-after {B} {kind} {kept} {engine} {event} {call} {new} {left} ready within life is own desk =
     let turned : desk_with new left ≡ (after (device_of engine) (desk_of engine) event).desk = desk ∙ sym (ap (λ (e : Event). (after (device_of engine) (desk_of engine) e).desk) is) in
     record {
       own = own;
@@ -82,7 +82,7 @@ no_bytes device desk bytes (Read fd count) told = absurd told
 no_bytes device desk bytes event told = refl
 
 applied_as : {B : Type 0} (kind : B → Kind) (kept : B → Kept) (filters : Filters) (call : Event) (bytes : List ℕ) (samples : List ℤ) (old : ParentOf B) (before : Descriptors) (new : ParentOf B) (left : Descriptors) (told : Reply)
-    → IsCall call → HasBus kept (seen filters old.device) old → Leaves kind kept filters (bytes_moved bytes call) (area_written bytes (desk_with old before) call) old new → FollowsRules kept filters call old before new left told
+    → IsCall call → HasBus kept (seen filters old.device) old → LeavesParent kind kept filters (bytes_moved bytes call) (area_written bytes (desk_with old before) call) old new → FollowsRules kept filters call old before new left told
     → Applied kind kept filters call bytes samples old before new left told
 applied_as kind kept filters (Intr n) bytes samples old before new left told calls has leaves rules = absurd calls
 applied_as kind kept filters call bytes samples old before new left told calls has leaves rules = record {
@@ -100,7 +100,7 @@ applied_as kind kept filters call bytes samples old before new left told calls h
 }
 
 pub applied-call : {B : Type 0} {kind : B → Kind} {kept : B → Kept} {filters : Filters} {event call : Event} {bytes : List ℕ} {samples : List ℤ} {old : ParentOf B} {before : Descriptors} {new : ParentOf B} {left : Descriptors} {told : Reply}
-    → event ≡ call → IsCall call → HasBus kept (seen filters old.device) old → Leaves kind kept filters (bytes_moved bytes call) (area_written bytes (desk_with old before) call) old new → FollowsRules kept filters call old before new left told
+    → event ≡ call → IsCall call → HasBus kept (seen filters old.device) old → LeavesParent kind kept filters (bytes_moved bytes call) (area_written bytes (desk_with old before) call) old new → FollowsRules kept filters call old before new left told
     → Applied kind kept filters event bytes samples old before new left told
 applied-call {B} {kind} {kept} {filters} {event} {call} {bytes} {samples} {old} {before} {new} {left} {told} is calls has leaves rules =
     subst (λ (e : Event). Applied kind kept filters e bytes samples old before new left told) (sym is) (applied_as kind kept filters call bytes samples old before new left told calls has leaves rules)
@@ -125,7 +125,7 @@ alone kept filters call old before new left result told tells is refused desk re
 pub applied-answer : {B : Type 0} {kind : B → Kind} {kept : B → Kept} {filters : Filters} {event call : Event} {bytes : List ℕ} {samples : List ℤ} {old : ParentOf B} {before : Descriptors} {new : ParentOf B} {left : Descriptors} {result : Result Answer Errno} {told : Reply}
     → event ≡ call → IsTold call → HasBus kept (seen filters old.device) old → told ≡ record { result = result; bytes = [] } → OnErr result ((new ≡ old) × (left ≡ before))
     → ChangesBy filters (λ device desk. after device desk call) old before new left → RepliesBy filters (λ device desk. after device desk call) old before result
-    → Leaves kind kept filters (bytes_moved bytes call) (area_written bytes (desk_with old before) call) old new → Applied kind kept filters event bytes samples old before new left told
+    → LeavesParent kind kept filters (bytes_moved bytes call) (area_written bytes (desk_with old before) call) old new → Applied kind kept filters event bytes samples old before new left told
 applied-answer {B} {kind} {kept} {filters} {event} {call} {bytes} {samples} {old} {before} {new} {left} {result} {told} is tells has kept_is refused desk reply leaves =
     applied-call is (told_calls call tells) has leaves (alone kept filters call old before new left result told tells kept_is (λ err. refusal result err refused) desk reply)
 
@@ -158,3 +158,8 @@ applied-mixer {B} {kind} {kept} {filters} {event} {bytes} {samples} {old} {befor
 pub accepted : {P : Type 0} (result : Result Answer Errno) (answer : Answer) → result ≡ Ok answer → IsErr result → P
 accepted (Ok given) answer is err = cc
 accepted (Err errno) answer is err = cc
+
+pub applied-interrupt : {B : Type 0} {kind : B → Kind} {kept : B → Kept} (engine : EngineOf B) {event call : Event} {bytes : List ℕ} {new : ParentOf B} {left : Descriptors} {told : Reply} → event ≡ call
+    → Applied kind kept engine.tables call bytes (samples_at_hand engine call) engine.parent engine.descriptors new left told → Applied kind kept engine.tables event bytes (samples_at_hand engine event) engine.parent engine.descriptors new left told
+applied-interrupt {B} {kind} {kept} engine {event} {call} {bytes} {new} {left} {told} is a =
+    subst (λ (e : Event). Applied kind kept engine.tables e bytes (samples_at_hand engine e) engine.parent engine.descriptors new left told) (sym is) a

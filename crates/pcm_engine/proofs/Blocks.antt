@@ -19,7 +19,7 @@ use Rattle.pcm_mixdev.specs.Fades.{faded}
 use Rattle.pcm_mixdev.specs.Mixers.{Levels, master_gain, slot_gain}
 use Rattle.pcm_desk.specs.declared.play_book.PlayBook.{PlayBook}
 use Rattle.pcm_desk.specs.declared.play_book.PlayState.{PlayState}
-use Rattle.pcm_desk.specs.declared.play_book.PlayState.TheVariants.{Free, Setup, Primed, Running, Draining}
+use Rattle.pcm_desk.specs.declared.play_book.PlayState.TheVariants.{Free, Setup, Running, Draining}
 use Rattle.pcm_desk.specs.PlayBooks.{finished, is_over, is_play_free, play_settled, refilled}
 use Rattle.pcm_desk.specs.declared.map_book.MapBook.{MapBook}
 use Rattle.pcm_desk.specs.declared.map_book.MapState.{MapState}
@@ -177,20 +177,14 @@ quiet_over true closed book h = record { free = λ e. cc; volume = refl }
 quiet_over false closed book h = record { free = λ e. e; volume = refl }
 
 quiet_settled : (state : PlayState) (rate : Rate) (passed : ℤ) (book : PlayBook) → Quiet (record book { state = state }) (play_settled rate passed (record book { state = state }))
-quiet_settled Free rate passed book = record { free = λ e. e; volume = refl }
-quiet_settled Setup rate passed book = record { free = λ e. e; volume = refl }
-quiet_settled Primed rate passed book = record { free = λ e. e; volume = refl }
-quiet_settled Running rate passed book = record { free = λ e. e; volume = refl }
 quiet_settled (Draining closed) rate passed book =
     let draining : PlayBook = record book { state = Draining closed } in
     quiet_over (is_over rate passed draining) closed draining refl
+quiet_settled state rate passed book = record { free = λ e. e; volume = refl }
 
 quiet_refilled : (state : PlayState) (rate : Rate) (mixed n : ℕ) (book : PlayBook) → Quiet (record book { state = state }) (refilled rate mixed n (record book { state = state }))
-quiet_refilled Free rate mixed n book = record { free = λ e. e; volume = refl }
-quiet_refilled Setup rate mixed n book = record { free = λ e. e; volume = refl }
-quiet_refilled Primed rate mixed n book = record { free = λ e. e; volume = refl }
 quiet_refilled Running rate mixed n book = record { free = λ e. e; volume = refl }
-quiet_refilled (Draining closed) rate mixed n book = record { free = λ e. e; volume = refl }
+quiet_refilled state rate mixed n book = record { free = λ e. e; volume = refl }
 
 quiet_mixing : (device : DeviceSeen) (mixed n : ℕ) (book : PlayBook) → Quiet book (mixing device mixed n book)
 quiet_mixing device mixed zero book = record { free = λ e. e; volume = refl }
@@ -220,9 +214,8 @@ record QuietMap (old new : MapBook) : Type 0 where
   volume : new.volume ≡ old.volume
 
 quiet_taken : (state : MapState) (rate : Rate) (n : ℕ) (book : MapBook) → QuietMap (record book { state = state }) (map_refilled_in rate state n (record book { state = state }))
-quiet_taken map_states.Free rate n book = record { free = λ e. e; volume = refl }
-quiet_taken map_states.Setup rate n book = record { free = λ e. e; volume = refl }
 quiet_taken map_states.Running rate n book = record { free = λ e. e; volume = refl }
+quiet_taken state rate n book = record { free = λ e. e; volume = refl }
 
 quiet_map : (device : DeviceSeen) (n : ℕ) (book : MapBook) → QuietMap book (map_mixing device n book)
 quiet_map device zero book = record { free = λ e. e; volume = refl }

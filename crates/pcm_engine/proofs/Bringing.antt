@@ -4,7 +4,7 @@ use Rattle.std.proofs.Math.Nat.{mul-le-mul_right}
 use Rattle.pcm_format.specs.declared.layout.Layout.{Layout}
 use Rattle.pcm_format.specs.Layouts.{channels_of}
 use Rattle.pcm_oss.specs.declared.event.Event.{Event}
-use Rattle.pcm_oss.specs.declared.event.Event.TheVariants.{Open, Write, Poke, Read, Ioctl, Join, StartGroup, Close, Mixer, Intr}
+use Rattle.pcm_oss.specs.declared.event.Event.TheVariants.{Open, Write, Poke, Read, StartGroup, Intr}
 use Rattle.pcm_wave.specs.declared.pool.Pool.{Pool}
 use Rattle.pcm_wave.specs.declared.pool.Source.{Source}
 use Rattle.pcm_wave.specs.declared.pool.Source.TheVariants.{Inline}
@@ -23,28 +23,14 @@ abbrev OfPokes : (Event → Type 0) → Type 0
 OfPokes holds = (fd offset at place count : ℕ) → holds (Poke fd offset at count) → holds (Poke fd offset place count)
 
 to_placeless : (holds : Event → Type 0) → OfWrites holds → OfPokes holds → (event : Event) → holds event → holds (placeless event)
-to_placeless holds write poke (Open fd way settings) h = h
 to_placeless holds write poke (Write fd source at count) h = write fd source _ at 0 count h
 to_placeless holds write poke (Poke fd offset at count) h = poke fd offset at 0 count h
-to_placeless holds write poke (Read fd count) h = h
-to_placeless holds write poke (Ioctl fd request) h = h
-to_placeless holds write poke (Join fd group) h = h
-to_placeless holds write poke (StartGroup fd group) h = h
-to_placeless holds write poke (Close fd) h = h
-to_placeless holds write poke (Mixer request) h = h
-to_placeless holds write poke (Intr frames) h = h
+to_placeless holds write poke event h = h
 
 of_placeless : (holds : Event → Type 0) → OfWrites holds → OfPokes holds → (event : Event) → holds (placeless event) → holds event
-of_placeless holds write poke (Open fd way settings) h = h
 of_placeless holds write poke (Write fd source at count) h = write fd _ source 0 at count h
 of_placeless holds write poke (Poke fd offset at count) h = poke fd offset 0 at count h
-of_placeless holds write poke (Read fd count) h = h
-of_placeless holds write poke (Ioctl fd request) h = h
-of_placeless holds write poke (Join fd group) h = h
-of_placeless holds write poke (StartGroup fd group) h = h
-of_placeless holds write poke (Close fd) h = h
-of_placeless holds write poke (Mixer request) h = h
-of_placeless holds write poke (Intr frames) h = h
+of_placeless holds write poke event h = h
 
 -- What holds of an event wherever its bytes stand, holds of each that is the same.
 pub wherever : (holds : Event → Type 0) → OfWrites holds → OfPokes holds → (event named : Event) → placeless named ≡ placeless event → holds event → holds named
@@ -56,41 +42,23 @@ descriptor-fits device pool (Open fd way settings) fits = fits.0
 descriptor-fits device pool (Write fd source at count) fits = fits.0
 descriptor-fits device pool (Poke fd offset at count) fits = fits.0
 descriptor-fits device pool (Read fd count) fits = fits.0
-descriptor-fits device pool (Ioctl fd request) fits = fits
-descriptor-fits device pool (Join fd group) fits = fits
 descriptor-fits device pool (StartGroup fd group) fits = tt
-descriptor-fits device pool (Close fd) fits = fits
-descriptor-fits device pool (Mixer request) fits = tt
 descriptor-fits device pool (Intr frames) fits = tt
+descriptor-fits device pool event fits = fits
 
 -- an event that fits keeps the limits, and its bytes are there
 pub allowed-fits : (device : DeviceSeen) (pool : Pool) (event : Event) → Fits device pool event → IsAllowed device event
-allowed-fits device pool (Open fd way settings) fits = fits
 allowed-fits device pool (Write fd source at count) fits = fits.0
 allowed-fits device pool (Poke fd offset at count) fits = fits.0
-allowed-fits device pool (Read fd count) fits = fits
-allowed-fits device pool (Ioctl fd request) fits = fits
-allowed-fits device pool (Join fd group) fits = fits
-allowed-fits device pool (StartGroup fd group) fits = fits
-allowed-fits device pool (Close fd) fits = fits
-allowed-fits device pool (Mixer request) fits = fits
-allowed-fits device pool (Intr frames) fits = fits
+allowed-fits device pool event fits = fits
 
 pub named-fits : (device : DeviceSeen) (pool : Pool) (event : Event) → Fits device pool event → HasNamed pool event
-named-fits device pool (Open fd way settings) fits = tt
 named-fits device pool (Write fd source at count) fits = fits.2
 named-fits device pool (Poke fd offset at count) fits = fits.2
-named-fits device pool (Read fd count) fits = tt
-named-fits device pool (Ioctl fd request) fits = tt
-named-fits device pool (Join fd group) fits = tt
-named-fits device pool (StartGroup fd group) fits = tt
-named-fits device pool (Close fd) fits = tt
-named-fits device pool (Mixer request) fits = tt
-named-fits device pool (Intr frames) fits = tt
+named-fits device pool event fits = tt
 
 -- an event brings as many bytes as it names
 pub length-brought : (pool : Pool) (event : Event) → HasNamed pool event → length (bytes_brought pool event) ≡ bytes_asked event
-length-brought pool (Open fd way settings) named = refl
 length-brought pool (Write fd source at count) named =
     let behind = length-drop at (source_bytes pool source) in
     let within = named.within in
@@ -99,36 +67,14 @@ length-brought pool (Poke fd offset at count) named =
     let behind = length-drop at (source_bytes pool Inline) in
     let within = named.within in
     length-take-le count (drop at (source_bytes pool Inline)) (omega (arith, behind, within))
-length-brought pool (Read fd count) named = refl
-length-brought pool (Ioctl fd request) named = refl
-length-brought pool (Join fd group) named = refl
-length-brought pool (StartGroup fd group) named = refl
-length-brought pool (Close fd) named = refl
-length-brought pool (Mixer request) named = refl
-length-brought pool (Intr frames) named = refl
+length-brought pool event named = refl
 
 -- what it opens has a rate within the limits
 pub opens-allowed : (device : DeviceSeen) (event : Event) → IsAllowed device event → OpensWithin event
 opens-allowed device (Open fd way settings) within = within.1
-opens-allowed device (Write fd source at count) within = tt
-opens-allowed device (Poke fd offset at count) within = tt
-opens-allowed device (Read fd count) within = tt
-opens-allowed device (Ioctl fd request) within = tt
-opens-allowed device (Join fd group) within = tt
-opens-allowed device (StartGroup fd group) within = tt
-opens-allowed device (Close fd) within = tt
-opens-allowed device (Mixer request) within = tt
-opens-allowed device (Intr frames) within = tt
+opens-allowed device event within = tt
 
 -- an interrupt captures no more samples than a full ring has
 pub samples-allowed : (device : DeviceSeen) (layout : Layout) (event : Event) → IsAllowed device event → samples_asked layout event ≤ ring_frames device * channels_of layout
-samples-allowed device layout (Open fd way settings) within = omega arith
-samples-allowed device layout (Write fd source at count) within = omega arith
-samples-allowed device layout (Poke fd offset at count) within = omega arith
-samples-allowed device layout (Read fd count) within = omega arith
-samples-allowed device layout (Ioctl fd request) within = omega arith
-samples-allowed device layout (Join fd group) within = omega arith
-samples-allowed device layout (StartGroup fd group) within = omega arith
-samples-allowed device layout (Close fd) within = omega arith
-samples-allowed device layout (Mixer request) within = omega arith
 samples-allowed device layout (Intr frames) within = mul-le-mul_right (channels_of layout) within.1
+samples-allowed device layout event within = omega arith

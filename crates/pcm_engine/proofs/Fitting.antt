@@ -11,7 +11,7 @@ use Rattle.pcm_chain.specs.Counts.{IsNear}
 use Rattle.pcm_chain.proofs.Counting.{need-near, rate-near}
 use Rattle.pcm_desk.specs.declared.play_book.PlayBook.{PlayBook}
 use Rattle.pcm_desk.specs.declared.play_book.PlayState.{PlayState}
-use Rattle.pcm_desk.specs.declared.play_book.PlayState.TheVariants.{Free, Setup, Primed, Running, Draining}
+use Rattle.pcm_desk.specs.declared.play_book.PlayState.TheVariants.{Running, Draining}
 use Rattle.pcm_desk.specs.Device.{DeviceSeen, IsDevice, parent_plan, parent_rate, play_plan_between, seen}
 use Rattle.pcm_desk.specs.Channels.{map_rate_at}
 use Rattle.pcm_desk.specs.MapBooks.{taken_of}
@@ -36,11 +36,9 @@ mixed-few kept device parent has few =
 
 -- a run needs 48 frames of its client at most for each that it gave
 eaten_few : (state : PlayState) (rate : Rate) (book : PlayBook) → IsNear rate → IsPlayInOrder rate state book → book.eaten ≤ 48 * book.given + 81
-eaten_few Free rate book near o = (let none = o.1.eaten_none in omega (arith, none))
-eaten_few Setup rate book near o = (let none = o.1.eaten_none in omega (arith, none))
-eaten_few Primed rate book near o = (let none = o.1.eaten_none in omega (arith, none))
 eaten_few Running rate book near o = (let early = o.eats.early in omega (arith, early, need-near rate book.given near, need-near rate (book.given + 1) near))
 eaten_few (Draining closed) rate book near o = (let early = o.eats.early in omega (arith, early, need-near rate book.given near, need-near rate (book.given + 1) near))
+eaten_few state rate book near o = (let none = o.1.eaten_none in omega (arith, none))
 
 -- what was written waits, or was needed for what was mixed
 pub bytes-few : (rate : Rate) (mixed : ℕ) (book : PlayBook) → IsNear rate → PlayIsSafe rate book → PlayKeepsPace mixed book → book.done + book.written ≤ bytes_for_frame * mixed + 133664

@@ -86,29 +86,15 @@ join-done device desk fd found held group number e j r = join_is device desk fd 
 
 -- ---- a start
 
--- a start by a channel that joins no group
-pub start-alone : (device : DeviceSeen) (desk : Desk) (found : Option Held) (held : Held) (group : ℕ) → found ≡ Some held → may_join held.way ≡ false → start_on device found desk group ≡ refusing desk Inval
-start-alone device desk found held group e alone =
-    ap (λ (h : Option Held). start_on device h desk group) e ∙ ap (λ (b : Bool). cond {A = DeskTurn} b (start_turn device desk group) (refusing desk Inval)) alone
-
--- and by another, whether there is such a group and whether its members are ready
-start_tested : (device : DeviceSeen) (desk : Desk) (found : Option Held) (held : Held) (group : ℕ) (used ready : Bool) → found ≡ Some held → may_join held.way ≡ true → is_used desk.groups group ≡ used → all_in group play_is_ready desk.groups.play desk.play ≡ ready
-    → start_on device found desk group ≡ cond {A = DeskTurn} (not used) (refusing desk Inval) (cond {A = DeskTurn} (not ready) (refusing desk Busy) (record { desk = group_started device desk group; reply = Ok Done }))
-start_tested device desk found held group used ready e joins u r =
-    ap (λ (h : Option Held). start_on device h desk group) e
-    ∙ ap (λ (b : Bool). cond {A = DeskTurn} b (start_turn device desk group) (refusing desk Inval)) joins
-    ∙ ap (λ (b : Bool). cond {A = DeskTurn} (not b) (refusing desk Inval) (cond {A = DeskTurn} (not (all_in group play_is_ready desk.groups.play desk.play)) (refusing desk Busy) (record { desk = group_started device desk group; reply = Ok Done }))) u
-    ∙ ap (λ (b : Bool). cond {A = DeskTurn} (not used) (refusing desk Inval) (cond {A = DeskTurn} (not b) (refusing desk Busy) (record { desk = group_started device desk group; reply = Ok Done }))) r
-
-pub start-unused : (device : DeviceSeen) (desk : Desk) (found : Option Held) (held : Held) (group : ℕ) → found ≡ Some held → may_join held.way ≡ true → is_used desk.groups group ≡ false → start_on device found desk group ≡ refusing desk Inval
-start-unused device desk found held group e joins u = start_tested device desk found held group false (all_in group play_is_ready desk.groups.play desk.play) e joins u refl
-
-pub start-busy : (device : DeviceSeen) (desk : Desk) (found : Option Held) (held : Held) (group : ℕ) → found ≡ Some held → may_join held.way ≡ true → is_used desk.groups group ≡ true → all_in group play_is_ready desk.groups.play desk.play ≡ false → start_on device found desk group ≡ refusing desk Busy
-start-busy device desk found held group e joins u r = start_tested device desk found held group true false e joins u r
-
+-- by a channel that joins groups, of a group that is used and whose members are ready
 pub start-done : (device : DeviceSeen) (desk : Desk) (found : Option Held) (held : Held) (group : ℕ) → found ≡ Some held → may_join held.way ≡ true → is_used desk.groups group ≡ true → all_in group play_is_ready desk.groups.play desk.play ≡ true
     → start_on device found desk group ≡ record { desk = group_started device desk group; reply = Ok Done }
-start-done device desk found held group e joins u r = start_tested device desk found held group true true e joins u r
+start-done device desk found held group e joins used ready =
+    let done : DeskTurn = record { desk = group_started device desk group; reply = Ok Done } in
+    ap (λ (h : Option Held). start_on device h desk group) e
+    ∙ ap (λ (b : Bool). cond {A = DeskTurn} b (start_turn device desk group) (refusing desk Inval)) joins
+    ∙ ap (λ (b : Bool). cond {A = DeskTurn} (not b) (refusing desk Inval) (cond {A = DeskTurn} (not (all_in group play_is_ready desk.groups.play desk.play)) (refusing desk Busy) done)) used
+    ∙ ap (λ (b : Bool). cond {A = DeskTurn} (not b) (refusing desk Busy) done) ready
 
 -- ---- what `?` hands on
 

@@ -1,5 +1,5 @@
 -- The books of a ready engine are in order, and no ring passes its size: its channels and its parent carry it.
-use Rattle.std.proofs.Common.{◌≡◌, ℕ, ◌+◌, ◌<◌, ◌^◌, List, length, get_or, inl, inr, refl, sym, ap, ◌∙◌, subst, arith}
+use Rattle.std.proofs.Common.{◌≡◌, ℕ, ◌+◌, ◌<◌, ◌≤◌, ◌^◌, List, length, get_or, inl, inr, map, refl, sym, ap, ◌∙◌, subst, arith}
 use Rattle.std.specs.Prelude.{All}
 use Rattle.std.proofs.lemmas.Bool.{cases_lt}
 use Rattle.std.proofs.lemmas.List.{get_or-map, get_or_past, length-map}
@@ -14,9 +14,9 @@ use Rattle.pcm_desk.specs.declared.map_book.MapBook.{MapBook}
 use Rattle.pcm_desk.specs.declared.record_book.RecordBook.{RecordBook}
 use Rattle.pcm_desk.specs.declared.here.Here.{Here}
 use Rattle.pcm_desk.specs.Here.{IsHere}
-use Rattle.pcm_desk.specs.Device.{DeviceSeen, IsDevice, IsInLimits, passed_for, seen}
+use Rattle.pcm_desk.specs.Device.{DeviceSeen, IsDevice, IsInLimits, passed_for, ring_frames, seen}
 use Rattle.pcm_desk.specs.Channels.{map_rate_at, play_rate_at, record_rate_at}
-use Rattle.pcm_desk.specs.Desk.{Desk, desk_here, map_unopened, play_at, play_unopened, record_unopened}
+use Rattle.pcm_desk.specs.Desk.{desk_here, map_unopened, play_at, play_unopened, record_unopened}
 use Rattle.pcm_desk.specs.Own.{MembersWait}
 use Rattle.pcm_desk.specs.MapBooks.{taken_of}
 use Rattle.pcm_desk.specs.PlaySafe.{PlayIsHere, PlayIsSafe}
@@ -38,50 +38,62 @@ use Rattle.pcm_map.proofs.Books as maps
 use Rattle.pcm_bus.specs.Slots.{MapAreOf, PlayAreOf, map_books_of, play_books_of}
 use Rattle.pcm_vchan.specs.Slots.{RecordAreOf, record_books_of}
 use Rattle.pcm_bus.proofs.Channels.{some_channel}
-use Rattle.pcm_vchan.specs.Parents.{AreClosable, AreServed, HasBus, here_of, map_channels, play_channels, record_channels}
+use Rattle.pcm_vchan.specs.Parents.{mixed_in, AreClosable, AreDue, AreServed, HasBus, here_of, map_channels, play_channels, record_channels}
 use Rattle.pcm_engine.specs.declared.engine.EngineOf.{EngineOf}
 use Rattle.pcm_engine.specs.Life.{MapKeepsPace, PlayKeepsPace, RecordKeepsPace}
 use Rattle.pcm_engine.specs.Answered.{CanBeAsked}
-use Rattle.pcm_engine.proofs.Fitting.{bytes-few, mixed-few, taken-few}
+use Rattle.pcm_record.proofs.Capturing.{capture-fits}
+use Rattle.pcm_engine.proofs.Buses.{mixes-few}
+use Rattle.pcm_engine.proofs.Fitting.{bytes-few, counts-fit, mixed-few, taken-few}
 use Rattle.pcm_engine.proofs.Pace.{ReliesOn, near-rate}
-use Rattle.pcm_engine.specs.Engines.{AreReady, BooksAreHere, MapBooksAreSafe, RecordsAreSafe, RingsHold, desk_of, device_of}
+use Rattle.pcm_engine.specs.Engines.{AreReady, BooksAreHere, RingsHold, desk_of, device_of}
 
--- ---- channels that play
+-- ---- the book of each slot
 
 abbrev IsSafe : DeviceSeen → PlayBook → Type 0
 IsSafe device book = PlayIsSafe (play_rate_at device book) book
 
--- a channel carries it by the plan that its chain goes by
-own_safe : {B : Type 0} (kind : B → Kind) (kept : B → Kept) (filters : Filters) (device : Device) (channel : PlayChannelOf B) → channel.path.device ≡ device → IsPlayReady kind kept filters channel → IsSafe (seen filters device) channel.book
-own_safe kind kept filters device channel own ready =
-    subst (λ (d : Device). IsSafe (seen filters d) channel.book) own
-    (safe-served filters channel ready.planned)
+abbrev IsRecordSafe : DeviceSeen → RecordBook → Type 0
+IsRecordSafe device book = RecordIsSafe (record_rate_at device book) book
 
--- a book that nobody has opened
-unopened_safe : (device : DeviceSeen) → IsSafe device (play_unopened device)
-unopened_safe device = record { order = (refl, unstarted); fill = omega arith; fragments = usual-fragments; volume = refl; told = omega arith }
+abbrev IsMapSafe : DeviceSeen → MapBook → Type 0
+IsMapSafe device book = MapIsSafe (map_rate_at device book) book
 
 -- what holds of the book of each channel, and of one that nobody has opened, holds of each slot
-each_book : {B : Type 0} (holds : PlayBook → Type 0) (device : DeviceSeen) (channels : List (PlayChannelOf B)) (slot : ℕ) → All (λ (channel : PlayChannelOf B). holds channel.book) channels → holds (play_unopened device)
-    → holds (get_or (play_books_of channels) slot (play_unopened device))
-each_book {B} holds device channels slot each none =
+each_book : {X Book : Type 0} (book : X → Book) (holds : Book → Type 0) (channels : List X) (slot : ℕ) (none : Book) → All (λ (channel : X). holds (book channel)) channels → holds none → holds (get_or (map book channels) slot none)
+each_book {X} book holds channels slot none each unopened =
     elim (cases_lt slot (length channels)) [
-      | inl there ↦ (let some : PlayChannelOf B = some_channel channels slot there in
-          subst holds (sym (get_or-map (λ (c : PlayChannelOf B). c.book) channels slot some (play_unopened device) there)) (each slot some there))
-      | inr past ↦ subst holds (sym (get_or_past (play_books_of channels) slot (play_unopened device) (omega (arith, length-map channels (λ (c : PlayChannelOf B). c.book))))) none
+      | inl there ↦ (let some : X = some_channel channels slot there in subst holds (sym (get_or-map book channels slot some none there)) (each slot some there))
+      | inr past ↦ subst holds (sym (get_or_past (map book channels) slot none (omega (arith, length-map channels book)))) unopened
     ]
 
--- the book of each slot
+-- a channel carries it by the plan that its chain goes by
 books_safe : {B : Type 0} (kind : B → Kind) (kept : B → Kept) (filters : Filters) (device : Device) (channels : List (PlayChannelOf B)) (slot : ℕ) → PlayAreOf device channels → All (IsPlayReady kind kept filters) channels
     → IsSafe (seen filters device) (get_or (play_books_of channels) slot (play_unopened (seen filters device)))
 books_safe {B} kind kept filters device channels slot own ready =
-    each_book (IsSafe (seen filters device)) (seen filters device) channels slot
-    (λ at other there. own_safe kind kept filters device (get_or channels at other) (own at other there) (ready at other there)) (unopened_safe (seen filters device))
+    each_book (λ (channel : PlayChannelOf B). channel.book) (IsSafe (seen filters device)) channels slot (play_unopened (seen filters device))
+    (λ at other there. subst (λ (d : Device). IsSafe (seen filters d) (get_or channels at other).book) (own at other there) (safe-served filters (get_or channels at other) (ready at other there).planned))
+    (record { order = (refl, unstarted); fill = omega arith; fragments = usual-fragments; volume = refl; told = omega arith })
+
+records_safe : {B : Type 0} (kind : B → Kind) (kept : B → Kept) (filters : Filters) (device : Device) (recorders : List (RecordChannelOf B)) (slot : ℕ) → RecordAreOf device recorders → All (IsRecordReady kind kept filters) recorders
+    → IsRecordSafe (seen filters device) (get_or (record_books_of recorders) slot (record_unopened (seen filters device)))
+records_safe {B} kind kept filters device channels slot own ready =
+    let none : RecordBook = record_unopened (seen filters device) in
+    each_book (λ (channel : RecordChannelOf B). channel.book) (IsRecordSafe (seen filters device)) channels slot none
+    (λ at other there. subst (λ (d : Device). IsRecordSafe (seen filters d) (get_or channels at other).book) (own at other there) (recorders.safe-served filters (get_or channels at other) (ready at other there).planned))
+    (safe-unstarted (record_rate_at (seen filters device) none) none (record { captured_none = refl; kept_none = refl; read_none = refl }) refl refl usual-fragments)
+
+maps_safe : {B : Type 0} (kind : B → Kind) (kept : B → Kept) (filters : Filters) (device : Device) (maps : List (MapChannelOf B)) (slot : ℕ) → MapAreOf device maps → All (IsMapReady kind kept filters) maps
+    → IsMapSafe (seen filters device) (get_or (map_books_of maps) slot (map_unopened (seen filters device)))
+maps_safe {B} kind kept filters device channels slot own ready =
+    each_book (λ (channel : MapChannelOf B). channel.book) (IsMapSafe (seen filters device)) channels slot (map_unopened (seen filters device))
+    (λ at other there. subst (λ (d : Device). IsMapSafe (seen filters d) (get_or channels at other).book) (own at other there) (maps.safe-served filters (get_or channels at other) (ready at other there).planned))
+    (record { order = refl; taken = refl; fragments = usual-fragments; volume = refl; told = omega arith })
 
 -- and its rate
 pub books-rates : {B : Type 0} (engine : EngineOf B) → IsDevice (device_of engine) → HaveRates (device_of engine) (desk_of engine)
 books-rates {B} engine d slot =
-    each_book (λ book. IsRate book.opening.settings.rate) (device_of engine) (play_channels engine.parent) slot
+    each_book (λ (channel : PlayChannelOf B). channel.book) (λ book. IsRate book.opening.settings.rate) (play_channels engine.parent) slot (play_unopened (device_of engine))
     (λ at other there. (let channel : PlayChannelOf B = get_or (play_channels engine.parent) at other in channel.serves.rate)) d.mix_rate
 
 -- where the mix and the device are
@@ -121,60 +133,7 @@ pub books-start : {B : Type 0} (filters : Filters) (device : Device) (channels :
 books-start {B} filters device channels slot here each =
     let Here_is : PlayBook → Type 0 = λ book. PlayIsHere (play_rate_at (seen filters device) book) here book in
     let none : Here_is (play_unopened (seen filters device)) = record { last = λ e. cc; left = λ e. cc } in
-    each_book Here_is (seen filters device) channels slot (λ at other there. subst Here_is (sym (each at other there)) none) none
-
--- ---- channels that record
-
-abbrev IsRecordSafe : DeviceSeen → RecordBook → Type 0
-IsRecordSafe device book = RecordIsSafe (record_rate_at device book) book
-
-record_own_safe : {B : Type 0} (kind : B → Kind) (kept : B → Kept) (filters : Filters) (device : Device) (channel : RecordChannelOf B) → channel.path.device ≡ device → IsRecordReady kind kept filters channel → IsRecordSafe (seen filters device) channel.book
-record_own_safe kind kept filters device channel own ready =
-    subst (λ (d : Device). IsRecordSafe (seen filters d) channel.book) own
-    (recorders.safe-served filters channel ready.planned)
-
-record_unopened_safe : (device : DeviceSeen) → IsRecordSafe device (record_unopened device)
-record_unopened_safe device =
-    safe-unstarted (record_rate_at device (record_unopened device)) (record_unopened device) (record { captured_none = refl; kept_none = refl; read_none = refl }) refl refl usual-fragments
-
-records_safe : {B : Type 0} (kind : B → Kind) (kept : B → Kept) (filters : Filters) (device : Device) (desk : Desk) (recorders : List (RecordChannelOf B)) → desk.recording ≡ record_books_of recorders → RecordAreOf device recorders
-    → All (IsRecordReady kind kept filters) recorders → RecordsAreSafe (seen filters device) desk
-records_safe {B} kind kept filters device desk recorders are own ready slot =
-    let none : RecordBook = record_unopened (seen filters device) in
-    subst (λ (books : List RecordBook). IsRecordSafe (seen filters device) (get_or books slot none)) (sym are)
-    (elim (cases_lt slot (length recorders)) [
-      | inl there ↦ (let some : RecordChannelOf B = some_channel recorders slot there in
-          subst (IsRecordSafe (seen filters device)) (sym (get_or-map (λ (c : RecordChannelOf B). c.book) recorders slot some none there))
-          (record_own_safe kind kept filters device (get_or recorders slot some) (own slot some there) (ready slot some there)))
-      | inr past ↦ subst (IsRecordSafe (seen filters device)) (sym (get_or_past (record_books_of recorders) slot none (omega (arith, length-map recorders (λ (c : RecordChannelOf B). c.book)))))
-          (record_unopened_safe (seen filters device))
-    ])
-
--- ---- mapped channels
-
-abbrev IsMapSafe : DeviceSeen → MapBook → Type 0
-IsMapSafe device book = MapIsSafe (map_rate_at device book) book
-
-map_own_safe : {B : Type 0} (kind : B → Kind) (kept : B → Kept) (filters : Filters) (device : Device) (channel : MapChannelOf B) → channel.path.device ≡ device → IsMapReady kind kept filters channel → IsMapSafe (seen filters device) channel.book
-map_own_safe kind kept filters device channel own ready =
-    subst (λ (d : Device). IsMapSafe (seen filters d) channel.book) own
-    (maps.safe-served filters channel ready.planned)
-
-map_unopened_safe : (device : DeviceSeen) → IsMapSafe device (map_unopened device)
-map_unopened_safe device = record { order = refl; taken = refl; fragments = usual-fragments; volume = refl; told = omega arith }
-
-maps_safe : {B : Type 0} (kind : B → Kind) (kept : B → Kept) (filters : Filters) (device : Device) (desk : Desk) (maps : List (MapChannelOf B)) → desk.mapped ≡ map_books_of maps → MapAreOf device maps
-    → All (IsMapReady kind kept filters) maps → MapBooksAreSafe (seen filters device) desk
-maps_safe {B} kind kept filters device desk maps are own ready slot =
-    let none : MapBook = map_unopened (seen filters device) in
-    subst (λ (books : List MapBook). IsMapSafe (seen filters device) (get_or books slot none)) (sym are)
-    (elim (cases_lt slot (length maps)) [
-      | inl there ↦ (let some : MapChannelOf B = some_channel maps slot there in
-          subst (IsMapSafe (seen filters device)) (sym (get_or-map (λ (c : MapChannelOf B). c.book) maps slot some none there))
-          (map_own_safe kind kept filters device (get_or maps slot some) (own slot some there) (ready slot some there)))
-      | inr past ↦ subst (IsMapSafe (seen filters device)) (sym (get_or_past (map_books_of maps) slot none (omega (arith, length-map maps (λ (c : MapChannelOf B). c.book)))))
-          (map_unopened_safe (seen filters device))
-    ])
+    each_book (λ (channel : PlayChannelOf B). channel.book) Here_is channels slot (play_unopened (seen filters device)) (λ at other there. subst Here_is (sym (each at other there)) none) none
 
 -- ---- rings
 
@@ -199,18 +158,18 @@ ready-all kind kept engine playing recording mapped bus limits places members = 
   mapped = mapped;
   bus = bus;
   books = λ slot. books_safe kind kept engine.tables engine.parent.device (play_channels engine.parent) slot engine.order.own.playing playing;
-  records = records_safe kind kept engine.tables engine.parent.device (desk_of engine) (record_channels engine.parent) refl engine.order.own.recording recording;
-  maps = maps_safe kind kept engine.tables engine.parent.device (desk_of engine) (map_channels engine.parent) refl engine.order.own.mapped mapped;
+  records = λ slot. records_safe kind kept engine.tables engine.parent.device (record_channels engine.parent) slot engine.order.own.recording recording;
+  maps = λ slot. maps_safe kind kept engine.tables engine.parent.device (map_channels engine.parent) slot engine.order.own.mapped mapped;
   rings = rings-hold engine;
 }
 
 -- they are ready for a call
-pub served : {B : Type 0} (kind : B → Kind) (kept : B → Kept) (engine : EngineOf B) → AreReady kind kept engine → AreServed kind kept engine.tables engine.parent
-served kind kept engine ready = record { own = engine.order.own.playing; recorders_own = engine.order.own.recording; maps_own = engine.order.own.mapped; ready = ready.playing; recorders_ready = ready.recording; maps_ready = ready.mapped }
+pub served : {B : Type 0} {kind : B → Kind} {kept : B → Kept} {engine : EngineOf B} → AreReady kind kept engine → AreServed kind kept engine.tables engine.parent
+served {engine = engine} ready = record { own = engine.order.own.playing; recorders_own = engine.order.own.recording; maps_own = engine.order.own.mapped; ready = ready.playing; recorders_ready = ready.recording; maps_ready = ready.mapped }
 
 -- and may be closed
-pub closable : {B : Type 0} (kind : B → Kind) (kept : B → Kept) (engine : EngineOf B) → AreReady kind kept engine → AreClosable kind engine.parent
-closable kind kept engine ready = record {
+pub closable : {B : Type 0} {kind : B → Kind} {kept : B → Kept} {engine : EngineOf B} → AreReady kind kept engine → AreClosable kind engine.parent
+closable {engine = engine} ready = record {
   own = engine.order.own.playing;
   recorders_own = engine.order.own.recording;
   maps_own = engine.order.own.mapped;
@@ -221,29 +180,24 @@ closable kind kept engine ready = record {
 
 -- ---- counts
 
+-- what holds of every book holds of the book of each channel
+book_at : {X Book : Type 0} (book : X → Book) (holds : Book → Type 0) (channels : List X) (slot : ℕ) (other : X) → slot < length channels → All holds (map book channels) → holds (book (get_or channels slot other))
+book_at book holds channels slot other there each = subst holds (get_or-map book channels slot other (book other) there) (each slot (book other) (omega (arith, there, length-map channels book)))
+
 -- no channel runs ahead of what was mixed and given to the device
 pub play-pace : {B : Type 0} (engine : EngineOf B) (slot : ℕ) (other : PlayChannelOf B) → slot < length (play_channels engine.parent) → PlayKeepsPace engine.parent.mixed (get_or (play_channels engine.parent) slot other).book
-play-pace {B} engine slot other there =
-    let book : PlayChannelOf B → PlayBook = λ channel. channel.book in
-    subst (PlayKeepsPace engine.parent.mixed) (get_or-map book (play_channels engine.parent) slot other other.book there)
-    (engine.order.pace.playing slot other.book (omega (arith, there, length-map (play_channels engine.parent) book)))
+play-pace {B} engine slot other there = book_at (λ (channel : PlayChannelOf B). channel.book) (PlayKeepsPace engine.parent.mixed) (play_channels engine.parent) slot other there engine.order.pace.playing
 
 pub record-pace : {B : Type 0} (engine : EngineOf B) (slot : ℕ) (other : RecordChannelOf B) → slot < length (record_channels engine.parent) → RecordKeepsPace engine.parent.handed (get_or (record_channels engine.parent) slot other).book
-record-pace {B} engine slot other there =
-    let book : RecordChannelOf B → RecordBook = λ channel. channel.book in
-    subst (RecordKeepsPace engine.parent.handed) (get_or-map book (record_channels engine.parent) slot other other.book there)
-    (engine.order.pace.recording slot other.book (omega (arith, there, length-map (record_channels engine.parent) book)))
+record-pace {B} engine slot other there = book_at (λ (channel : RecordChannelOf B). channel.book) (RecordKeepsPace engine.parent.handed) (record_channels engine.parent) slot other there engine.order.pace.recording
 
-pub map-pace : {B : Type 0} (engine : EngineOf B) (slot : ℕ) (other : MapChannelOf B) → slot < length (map_channels engine.parent) → MapKeepsPace engine.parent.mixed (get_or (map_channels engine.parent) slot other).book
-map-pace {B} engine slot other there =
-    let book : MapChannelOf B → MapBook = λ channel. channel.book in
-    subst (MapKeepsPace engine.parent.mixed) (get_or-map book (map_channels engine.parent) slot other other.book there)
-    (engine.order.pace.mapped slot other.book (omega (arith, there, length-map (map_channels engine.parent) book)))
+map-pace : {B : Type 0} (engine : EngineOf B) (slot : ℕ) (other : MapChannelOf B) → slot < length (map_channels engine.parent) → MapKeepsPace engine.parent.mixed (get_or (map_channels engine.parent) slot other).book
+map-pace {B} engine slot other there = book_at (λ (channel : MapChannelOf B). channel.book) (MapKeepsPace engine.parent.mixed) (map_channels engine.parent) slot other there engine.order.pace.mapped
 
 -- the bytes that one counts are few
-pub bytes-counted : {B : Type 0} (kind : B → Kind) (kept : B → Kept) (engine : EngineOf B) → AreReady kind kept engine
+pub bytes-counted : {B : Type 0} {kind : B → Kind} {kept : B → Kept} {engine : EngineOf B} → AreReady kind kept engine
     → All (λ (channel : PlayChannelOf B). channel.book.done + channel.book.written < 2 ^ 63) (play_channels engine.parent)
-bytes-counted {B} kind kept engine ready slot other there =
+bytes-counted {B} {kind} {kept} {engine} ready slot other there =
     let channel : PlayChannelOf B = get_or (play_channels engine.parent) slot other in
     let near = near-rate (seen engine.tables channel.path.device) channel.book.opening.settings
     (subst (λ (d : Device). IsDevice (seen engine.tables d)) (sym (engine.order.own.playing slot other there)) ready.limits.device_is) channel.serves.rate in
@@ -260,12 +214,44 @@ maps-taken kind kept engine ready slot other there =
     taken-few engine.tables channel device (ready.mapped slot other there).planned (omega (arith, given, few-mixed kept engine ready.bus))
 
 -- all may be asked where the mix and the device are
-pub can-be-asked : {B : Type 0} (kind : B → Kind) (kept : B → Kept) (engine : EngineOf B) (here : Here) → AreReady kind kept engine → here ≡ here_of engine.parent → CanBeAsked kind kept engine.tables here engine.parent
-can-be-asked kind kept engine here ready is = record {
-  served = served kind kept engine ready;
+pub can-be-asked : {B : Type 0} {kind : B → Kind} {kept : B → Kept} {engine : EngineOf B} {here : Here} → AreReady kind kept engine → here ≡ here_of engine.parent → CanBeAsked kind kept engine.tables here engine.parent
+can-be-asked {B} {kind} {kept} {engine} {here} ready is = record {
+  served = served ready;
   here = subst IsHere (sym is) (here-within kept engine ready.limits ready.bus);
   at = is ∙ here-seen kept engine ready.bus;
   places = subst (λ (place : Here). All (IsPlayHere engine.tables place) (play_channels engine.parent)) (sym is) (channels-here kept engine ready.bus ready.places);
-  count = λ slot other there. (let counted = bytes-counted kind kept engine ready slot other there in omega (arith, counted));
+  count = λ slot other there. (let counted = bytes-counted ready slot other there in omega (arith, counted));
   taken = maps-taken kind kept engine ready;
 }
+
+-- and all are due for an interrupt, since few frames were mixed and given to the device
+pub due : {B : Type 0} {kind : B → Kind} {kept : B → Kept} {engine : EngineOf B} {frames : ℕ} → AreReady kind kept engine → (0 < frames) × (frames ≤ ring_frames (device_of engine)) → AreDue kind kept engine.tables frames engine.parent
+due {B} {kind} {kept} {engine} {frames} ready fits =
+    let own = engine.order.own in
+    let IsOf : Device → Type 0 = λ d. IsDevice (seen engine.tables d) in
+    let few = mixes-few engine.tables frames engine.parent ready.limits.device_is fits.1 in
+    let mixed = few-mixed kept engine ready.bus in
+    record {
+      bus = ready.bus;
+      playing = λ slot other there. record {
+        own = own.playing slot other there;
+        ready = ready.playing slot other there;
+        given = (let played = (play-pace engine slot other there).played in omega (arith, played, few, mixed));
+        counted = (let counted = bytes-counted ready slot other there in omega (arith, counted));
+      };
+      recording = λ slot other there.
+          let pace = record-pace engine slot other there in
+          record {
+            own = own.recording slot other there;
+            ready = ready.recording slot other there;
+            captured = capture-fits engine.tables frames (get_or (record_channels engine.parent) slot other) (subst IsOf (sym (own.recording slot other there)) ready.limits.device_is)
+                (let captured = pace.captured in omega (arith, captured, engine.parent.within, fits.1, engine.order.life));
+            kept = (let kept = pace.kept in omega (arith, kept, engine.order.life));
+          };
+      mapped = λ slot other there. record {
+        own = own.mapped slot other there;
+        ready = ready.mapped slot other there;
+        counted = counts-fit engine.tables (mixed_in engine.tables frames engine.parent) (get_or (map_channels engine.parent) slot other) (subst IsOf (sym (own.mapped slot other there)) ready.limits.device_is)
+            (let given = (map-pace engine slot other there).given in omega (arith, given, few, mixed-few kept (device_of engine) engine.parent ready.bus engine.order.life));
+      };
+    }

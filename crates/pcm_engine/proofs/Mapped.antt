@@ -9,7 +9,7 @@ use Rattle.pcm_format.specs.Frames.{frame_bytes}
 use Rattle.pcm_rate.specs.declared.rate.Rate.{Rate}
 use Rattle.pcm_rate.specs.Rates.{need}
 use Rattle.pcm_oss.specs.declared.event.Event.{Event}
-use Rattle.pcm_oss.specs.declared.event.Event.TheVariants.{Open, Write, Poke, Read, Ioctl, Join, StartGroup, Close, Mixer, Intr}
+use Rattle.pcm_oss.specs.declared.event.Event.TheVariants.{Poke, Intr}
 use Rattle.pcm_wave.specs.declared.pool.Pool.{Pool}
 use Rattle.pcm_feeder.specs.declared.kind.Kind.{Kind}
 use Rattle.pcm_feeder.specs.Filters.{Filters}
@@ -124,9 +124,8 @@ mixing_area device zero book = area-kept book
 mixing_area device (suc n) book = at book.state
   where
     at : (state : MapState) → silences (record book { state = state }) (map_refilled_in (map_rate_at device book) state (suc n) (record book { state = state })) ≡ false
-    at Free = area-kept (record book { state = Free })
-    at Setup = area-kept (record book { state = Setup })
     at Running = area-kept (record book { state = Running })
+    at state = area-kept (record book { state = state })
 
 -- ---- a mapped channel stands for its slot
 
@@ -200,26 +199,10 @@ stands_played kind kept plain filters pool story n slot old new v own plays = λ
 pub map-told : {B : Type 0} (kind : B → Kind) (kept : B → Kept) (plain : Device) (filters : Filters) (pool : Pool) (story : Story) (event : Event) (before now : List (MapChannelOf B)) (slot : ℕ) (other : MapChannelOf B)
     → Fits (seen filters plain) pool event → StoryIsValid (seen filters plain) story → (get_or before slot other).path.device ≡ plain → slot < length before
     → MapsMove kind kept filters plain (bytes_brought pool event) story.desk event before now → Told kept (seen filters plain) pool story event slot (get_or before slot other) (get_or now slot other)
-map-told kind kept plain filters pool story (Open fd way settings) before now slot other fits v own there moves =
-    stands_kept kind kept (seen filters plain) pool story (Open fd way settings) slot (get_or before slot other) (get_or now slot other) fits refl v refl (moves slot other there)
-map-told kind kept plain filters pool story (Write fd source at count) before now slot other fits v own there moves =
-    stands_kept kind kept (seen filters plain) pool story (Write fd source at count) slot (get_or before slot other) (get_or now slot other) fits refl v refl (moves slot other there)
-map-told kind kept plain filters pool story (Poke fd offset at count) before now slot other fits v own there moves =
-    stands_kept kind kept (seen filters plain) pool story (Poke fd offset at count) slot (get_or before slot other) (get_or now slot other) fits refl v refl (moves slot other there)
-map-told kind kept plain filters pool story (Read fd count) before now slot other fits v own there moves =
-    stands_kept kind kept (seen filters plain) pool story (Read fd count) slot (get_or before slot other) (get_or now slot other) fits refl v refl (moves slot other there)
-map-told kind kept plain filters pool story (Ioctl fd request) before now slot other fits v own there moves =
-    stands_kept kind kept (seen filters plain) pool story (Ioctl fd request) slot (get_or before slot other) (get_or now slot other) fits refl v refl (moves slot other there)
-map-told kind kept plain filters pool story (Join fd group) before now slot other fits v own there moves =
-    stands_kept kind kept (seen filters plain) pool story (Join fd group) slot (get_or before slot other) (get_or now slot other) fits refl v refl (moves slot other there)
-map-told kind kept plain filters pool story (StartGroup fd group) before now slot other fits v own there moves =
-    stands_kept kind kept (seen filters plain) pool story (StartGroup fd group) slot (get_or before slot other) (get_or now slot other) fits refl v refl (moves slot other there)
-map-told kind kept plain filters pool story (Close fd) before now slot other fits v own there moves =
-    stands_kept kind kept (seen filters plain) pool story (Close fd) slot (get_or before slot other) (get_or now slot other) fits refl v refl (moves slot other there)
-map-told kind kept plain filters pool story (Mixer request) before now slot other fits v own there moves =
-    stands_kept kind kept (seen filters plain) pool story (Mixer request) slot (get_or before slot other) (get_or now slot other) fits refl v refl (moves slot other there)
 map-told kind kept plain filters pool story (Intr n) before now slot other fits v own there moves =
     stands_played kind kept plain filters pool story n slot (get_or before slot other) (get_or now slot other) v own (moves slot other there)
+map-told kind kept plain filters pool story event before now slot other fits v own there moves =
+    stands_kept kind kept (seen filters plain) pool story event slot (get_or before slot other) (get_or now slot other) fits refl v refl (moves slot other there)
 
 -- each mapped channel stands for its book, the bytes that were taken in its slot, and its area
 pub all-map : {B : Type 0} (kept : B → Kept) (device : DeviceSeen) (story : Story) (maps : List (MapChannelOf B)) → story.desk.mapped ≡ map_books_of maps
@@ -308,14 +291,7 @@ maps-ready {B = B} kind kept plain filters bytes desk event before now same move
     still writes each = λ slot other within. map-ready-moved kind kept filters [] 0 (get_or before slot other) (get_or now slot other) (each slot other (omega arith)).moves (ready slot other (omega arith))
 
     at : (e : Event) → MapsMove kind kept filters plain bytes desk e before now → All (IsMapReady kind kept filters) now
-    at (Open fd way settings) each = still untouched each
-    at (Write fd source place count) each = still untouched each
     at (Poke fd offset place count) each = still (area_written bytes desk (Poke fd offset place count)) each
-    at (Read fd count) each = still untouched each
-    at (Ioctl fd request) each = still untouched each
-    at (Join fd group) each = still untouched each
-    at (StartGroup fd group) each = still untouched each
-    at (Close fd) each = still untouched each
-    at (Mixer request) each = still untouched each
     at (Intr n) each = λ slot other within.
         map-ready-moved kind kept filters _ _ (get_or before slot other) (get_or now slot other) (each slot other (omega arith)).moves (ready slot other (omega arith))
+    at event each = still untouched each

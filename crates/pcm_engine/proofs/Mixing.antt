@@ -1,5 +1,5 @@
 -- The frames that a story mixes, as it goes on, and the device's ring, which gets what the plan makes of them.
-use Rattle.std.proofs.Common.{◌≡◌, ℕ, ◌+◌, ◌*◌, ◌≤◌, List, [], ◌++◌, length, get_or, map, drop, refl, sym, ap, ◌∙◌, arith}
+use Rattle.std.proofs.Common.{◌≡◌, ℕ, ◌+◌, ◌*◌, ◌≤◌, List, ◌++◌, length, get_or, map, drop, sym, ap, ◌∙◌, arith}
 use Rattle.std.specs.List.{range_with_len}
 use Rattle.std.proofs.Math.Nat.{mul-le-mul_right}
 use Rattle.std.proofs.lemmas.List.{drop-append-le, drop-drop}
@@ -74,20 +74,6 @@ mixed-on device pool story n v =
     ∙ ap (λ from. front ++ map (λ position. full_frame device (mix position)) (range_with_len from q)) v.mixed
     ∙ sym (mixed_frames-more device mix (mixed_for device handed) q)
     ∙ ap (mixed_frames device mix) (mixed-behind device handed n v.limits)
-
--- the same, from as many frames as the desk counts
-pub mixed-on_counted : (device : DeviceSeen) (pool : Pool) (story : Story) (n : ℕ) → StoryIsValid device story
-    → mixed_frames device (story_mix device story) story.desk.mixed
-    ++ raised_frames device (story_block device story n)
-    ≡ story_frames device (told device pool story (Intr n)) (story.desk.handed + n)
-mixed-on_counted device pool story n v =
-    let more : List Frame = raised_frames device (story_block device story n) in
-    ap (λ count. mixed_frames device (story_mix device story) count ++ more) v.mixed
-    ∙ mixed-on device pool story n v
-
--- nothing is mixed before the device is given its first frame
-pub mixed-start : (device : DeviceSeen) (mix : ℕ → Frame) → mixed_frames device mix (mixed_for device 0) ≡ []
-mixed-start device mix = refl
 
 -- an event that gives nothing to the device leaves what is mixed
 pub mixed-kept : (device : DeviceSeen) (pool : Pool) (story : Story) (event : Event) → StoryIsValid device story

@@ -29,7 +29,7 @@ use Rattle.pcm_vchan.specs.Slots.{record_books_of, slot_place}
 use Rattle.pcm_vchan.specs.Parents.{books_begun, map_books, play_books, play_channels, record_books, untouched, KeepsOutput, OpensMap, OpensPlay, OpensRecord}
 use Rattle.pcm_engine.specs.declared.descriptors.Descriptors.{Descriptors}
 use Rattle.pcm_engine.specs.Desks.{desk_with, with_held}
-use Rattle.pcm_engine.specs.Answered.{Leaves}
+use Rattle.pcm_engine.specs.Answered.{LeavesParent}
 use Rattle.pcm_engine.specs.Invariants.{AreOwn}
 use Rattle.pcm_engine.proofs.Answering.{leaves-mapping, leaves-playing, leaves-recording}
 use Rattle.pcm_engine.proofs.Turning.{opened-desk, opened-number, slot-found, told-behind}
@@ -64,7 +64,7 @@ opened-behind kind kept filters settings way old new result told opens is map =
 
 -- what it leaves of the parent
 pub leaves-opened : {B : Type 0} (kind : B → Kind) (kept : B → Kept) (filters : Filters) (settings : Settings) (way : Way) (old new : ParentOf B) (result : Result ℕ Errno) → AreOwn old → Opens kind kept filters settings way old new result
-    → Leaves kind kept filters [] untouched old new
+    → LeavesParent kind kept filters [] untouched old new
 leaves-opened kind kept filters settings Play old new result own opens = let o = opens.play refl in leaves-playing kind kept filters [] old new own opens.output o.others o.mapped o.own o.moves
 leaves-opened kind kept filters settings Record old new result own opens = let o = opens.recording refl in leaves-recording kind kept filters old new own opens.output o.others o.mapped o.own o.moves
 leaves-opened kind kept filters settings Map old new result own opens = let o = opens.mapped refl in leaves-mapping kind kept filters untouched old new own opens.output o.others o.recording o.own o.keeps

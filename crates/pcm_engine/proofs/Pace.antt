@@ -109,32 +109,25 @@ over_in true rate passed mixed state book near over p = finished_pace rate mixed
 over_in false rate passed mixed state book near over p = p
 
 settled_at : (state : PlayState) (rate : Rate) (passed : ℤ) (mixed : ℕ) (book : PlayBook) → IsNear rate → PlayKeepsPace mixed (record book { state = state }) → PlayKeepsPace mixed (play_settled rate passed (record book { state = state }))
-settled_at Free rate passed mixed book near p = p
-settled_at Setup rate passed mixed book near p = p
-settled_at Primed rate passed mixed book near p = p
-settled_at Running rate passed mixed book near p = p
 settled_at (Draining closed) rate passed mixed book near p =
     let draining : PlayBook = record book { state = Draining closed } in
     over_in (is_over rate passed draining) rate passed mixed (cond closed Free Setup) draining near refl p
+settled_at state rate passed mixed book near p = p
 
 drained_primed : (b : Bool) (mixed at : ℕ) (book : PlayBook) → PlayKeepsPace mixed book → PlayKeepsPace mixed (cond b (started_at at (Draining false) book) (play_emptied Setup book))
 drained_primed true mixed at book p = paced mixed book (started_at at (Draining false) book) refl refl p
 drained_primed false mixed at book p = rests mixed book (play_emptied Setup book) (omega arith) refl p
 
 drained_at : (state : PlayState) (rate : Rate) (here : Here) (mixed : ℕ) (book : PlayBook) → IsNear rate → PlayKeepsPace mixed (record book { state = state }) → PlayKeepsPace mixed (drained_in rate here state (record book { state = state }))
-drained_at Free rate here mixed book near p = p
-drained_at Setup rate here mixed book near p = p
 drained_at Primed rate here mixed book near p = drained_primed (nat_lt 0 (frames_written book)) mixed here.mixed (record book { state = Primed }) p
 drained_at Running rate here mixed book near p =
     settled_at (Draining false) rate here.passed mixed book near (paced mixed (record book { state = Running }) (record book { state = Draining false }) refl refl p)
-drained_at (Draining closed) rate here mixed book near p = p
+drained_at state rate here mixed book near p = p
 
 closed_at : (state : PlayState) (mixed : ℕ) (book : PlayBook) → PlayKeepsPace mixed (record book { state = state }) → PlayKeepsPace mixed (closed_in state (record book { state = state }))
-closed_at Free mixed book p = p
 closed_at Setup mixed book p = paced mixed (record book { state = Setup }) (record book { state = Free }) refl refl p
-closed_at Primed mixed book p = p
-closed_at Running mixed book p = p
 closed_at (Draining was) mixed book p = paced mixed (record book { state = Draining was }) (record book { state = Draining true }) refl refl p
+closed_at state mixed book p = p
 
 close_pace : (rate : Rate) (here : Here) (mixed : ℕ) (book : PlayBook) → IsNear rate → PlayKeepsPace mixed book → PlayKeepsPace mixed (close_turn rate here book)
 close_pace rate here mixed book near p =
@@ -152,15 +145,13 @@ primed_pace true at mixed more p = started_pace (more.opening.trigger && nat_le 
 primed_pace false at mixed more p = paced mixed more (record more { state = Setup }) refl refl p
 
 accepting_at : (state : PlayState) (at mixed accepted : ℕ) (book : PlayBook) → PlayKeepsPace mixed book → PlayKeepsPace mixed (accepting at accepted (record book { state = state }))
-accepting_at Free at mixed accepted book p = paced mixed book (accepting at accepted (record book { state = Free })) refl refl p
 accepting_at Setup at mixed accepted book p =
     let more : PlayBook = record book { written = book.written + accepted } in
     primed_pace (nat_lt 0 (book.written + accepted)) at mixed more (paced mixed book more refl refl p)
 accepting_at Primed at mixed accepted book p =
     let more : PlayBook = record book { written = book.written + accepted } in
     started_pace (more.opening.trigger && nat_le (fragment_bytes more.opening) (play_fill_of more)) at mixed more (paced mixed book more refl refl p)
-accepting_at Running at mixed accepted book p = paced mixed book (accepting at accepted (record book { state = Running })) refl refl p
-accepting_at (Draining closed) at mixed accepted book p = paced mixed book (accepting at accepted (record book { state = Draining closed })) refl refl p
+accepting_at state at mixed accepted book p = paced mixed book (accepting at accepted (record book { state = state })) refl refl p
 
 either : {X : Type 0} (P : X → Type 0) (b : Bool) (x y : X) → P x → P y → P (cond b x y)
 either P true x y px py = px
@@ -180,21 +171,16 @@ roused_primed true at mixed book p = paced mixed book (started_at at Running boo
 roused_primed false at mixed book p = p
 
 roused_at : (state : PlayState) (at mixed : ℕ) (book : PlayBook) → PlayKeepsPace mixed (record book { state = state }) → PlayKeepsPace mixed (play_roused_in at state (record book { state = state }))
-roused_at Free at mixed book p = p
-roused_at Setup at mixed book p = p
 roused_at Primed at mixed book p = roused_primed (nat_lt 0 (frames_written book)) at mixed (record book { state = Primed }) p
-roused_at Running at mixed book p = p
-roused_at (Draining closed) at mixed book p = p
+roused_at state at mixed book p = p
 
 dropped_pace : (mixed : ℕ) (book : PlayBook) → PlayKeepsPace mixed (play_dropped book)
 dropped_pace mixed book = record { played = omega arith }
 
 stopped_at : (state : PlayState) (mixed : ℕ) (book : PlayBook) → PlayKeepsPace mixed (record book { state = state }) → PlayKeepsPace mixed (play_stopped_in state (record book { state = state }))
-stopped_at Free mixed book p = p
-stopped_at Setup mixed book p = p
 stopped_at Primed mixed book p = dropped_pace mixed (record book { state = Primed })
 stopped_at Running mixed book p = dropped_pace mixed (record book { state = Running })
-stopped_at (Draining closed) mixed book p = p
+stopped_at state mixed book p = p
 
 ask_pace : (rate : Rate) (mix_rate : ℕ) (here : Here) (request : Request) (mixed : ℕ) (book : PlayBook) → IsNear rate → PlayKeepsPace mixed book → PlayKeepsPace mixed (play_ask rate mix_rate here request book).book
 ask_pace rate mix_rate here request mixed book near p =
@@ -216,22 +202,17 @@ given_pace : (rate : Rate) (at mixed n : ℕ) (old new : PlayBook) → new.done 
 given_pace rate at mixed n old new done given p = record { played = (let before = p.played in omega (arith, done, given, before)) }
 
 refilled_at : (state : PlayState) (rate : Rate) (at mixed n : ℕ) (book : PlayBook) → PlayKeepsPace mixed (record book { state = state }) → PlayKeepsPace (mixed + n) (refilled_in rate at state n (record book { state = state }))
-refilled_at Free rate at mixed n book p = more_mixed mixed n (record book { state = Free }) p
-refilled_at Setup rate at mixed n book p = more_mixed mixed n (record book { state = Setup }) p
-refilled_at Primed rate at mixed n book p = more_mixed mixed n (record book { state = Primed }) p
 refilled_at Running rate at mixed n book p = given_pace rate at mixed n (record book { state = Running }) (refilled_in rate at Running n (record book { state = Running })) refl refl p
 refilled_at (Draining closed) rate at mixed n book p = given_pace rate at mixed n (record book { state = Draining closed }) (refilled_in rate at (Draining closed) n (record book { state = Draining closed })) refl refl p
+refilled_at state rate at mixed n book p = more_mixed mixed n (record book { state = state }) p
 
 mixing_pace : (device : DeviceSeen) (at mixed n : ℕ) (book : PlayBook) → PlayKeepsPace mixed book → PlayKeepsPace (mixed + n) (mixing device at n book)
 mixing_pace device at mixed zero book p = more_mixed mixed zero book p
 mixing_pace device at mixed (suc n) book p = refilled_at book.state (play_rate_at device book) at mixed (suc n) book p
 
 refilled_opening : (state : PlayState) (rate : Rate) (at n : ℕ) (book : PlayBook) → (refilled_in rate at state n (record book { state = state })).opening ≡ book.opening
-refilled_opening Free rate at n book = refl
-refilled_opening Setup rate at n book = refl
-refilled_opening Primed rate at n book = refl
 refilled_opening Running rate at n book = refl
-refilled_opening (Draining closed) rate at n book = refl
+refilled_opening state rate at n book = refl
 
 mixing_opening : (device : DeviceSeen) (at n : ℕ) (book : PlayBook) → (mixing device at n book).opening ≡ book.opening
 mixing_opening device at zero book = refl
@@ -270,11 +251,10 @@ read_pace length handed book p =
 
 captured_at : (state : RecordState) (device : DeviceSeen) (handed n : ℕ) (book : RecordBook) → book.state ≡ state → 0 < n → RecordIsSafe (record_rate_at device book) book → RecordKeepsPace handed book
     → RecordKeepsPace (handed + n) (captured_in (record_rate_at device book) state n book)
-captured_at record_states.Free device handed n book e some s p = record { captured = (let before = p.captured in omega (arith, before)); kept = (let before = p.kept in omega (arith, before)) }
-captured_at record_states.Setup device handed n book e some s p = record { captured = (let before = p.captured in omega (arith, before)); kept = (let before = p.kept in omega (arith, before)) }
 captured_at record_states.Running device handed n book e some s p =
     let more = kept-most device n book (ap is_running e) s in
     record { captured = (let before = p.captured in omega (arith, before)); kept = (let before = p.kept in omega (arith, before, more, some)) }
+captured_at state device handed n book e some s p = record { captured = (let before = p.captured in omega (arith, before)); kept = (let before = p.kept in omega (arith, before)) }
 
 -- ---- mapped books
 
@@ -292,9 +272,8 @@ poke_pace : (offset count mixed : ℕ) (book : MapBook) → MapKeepsPace mixed b
 poke_pace offset count mixed book p = either (λ (turn : Turn MapBook). MapKeepsPace mixed turn.book) (nat_lt (ring_bytes book.opening) (offset + count)) (refused Inval book) (doing book) p p
 
 map_refilled_at : (state : MapState) (rate : Rate) (mixed n : ℕ) (book : MapBook) → MapKeepsPace mixed book → MapKeepsPace (mixed + n) (map_refilled_in rate state n book)
-map_refilled_at map_states.Free rate mixed n book p = record { given = (let before = p.given in omega (arith, before)) }
-map_refilled_at map_states.Setup rate mixed n book p = record { given = (let before = p.given in omega (arith, before)) }
 map_refilled_at map_states.Running rate mixed n book p = record { given = (let before = p.given in omega (arith, before)) }
+map_refilled_at state rate mixed n book p = record { given = (let before = p.given in omega (arith, before)) }
 
 map_mixing_pace : (device : DeviceSeen) (mixed n : ℕ) (book : MapBook) → MapKeepsPace mixed book → MapKeepsPace (mixed + n) (map_mixing device n book)
 map_mixing_pace device mixed zero book p = record { given = (let before = p.given in omega (arith, before)) }

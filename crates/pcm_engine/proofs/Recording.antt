@@ -1,16 +1,15 @@
 -- Channels that record and stand for a story stand for it with one event more.
-use Rattle.std.proofs.Common.{◌≡◌, ℕ, suc, ◌*◌, ◌<◌, ◌≤◌, ℤ, Bool, true, false, List, [], ◌++◌, length, get_or, min, take, drop, Option, Some, None, Result, refl, sym, ap, ◌∙◌, subst, arith}
+use Rattle.std.proofs.Common.{◌≡◌, ℕ, ◌<◌, ℤ, Bool, true, false, List, [], ◌++◌, length, get_or, min, take, drop, Option, Some, None, Result, refl, sym, ap, ◌∙◌, subst, arith}
 use Rattle.std.specs.Prelude.{All}
 use Rattle.std.proofs.lemmas.List.{append-nil, get_or-map, take_all}
 use Rattle.pcm_oss.specs.declared.event.Event.{Event}
-use Rattle.pcm_oss.specs.declared.event.Event.TheVariants.{Open, Write, Poke, Read, Ioctl, Join, StartGroup, Close, Mixer, Intr}
+use Rattle.pcm_oss.specs.declared.event.Event.TheVariants.{Read, Intr}
 use Rattle.pcm_oss.specs.declared.event.Way.{Way}
 use Rattle.pcm_oss.specs.declared.event.Way.TheVariants.{Play, Record, Map}
 use Rattle.pcm_oss.specs.declared.reply.Answer.{Answer}
 use Rattle.pcm_oss.specs.declared.reply.Errno.{Errno}
 use Rattle.pcm_oss.specs.Replies.{Reply}
 use Rattle.pcm_wave.specs.declared.pool.Pool.{Pool}
-use Rattle.std.proofs.lemmas.Nat.{div_below}
 use Rattle.pcm_wave.specs.Pools.{IsCaptureIn, captured_frames}
 use Rattle.pcm_wave.proofs.Captures.{captured_frames-channels}
 use Rattle.pcm_format.specs.declared.layout.Layout.{Layout}
@@ -20,7 +19,7 @@ use Rattle.pcm_format.proofs.Streams.{channels_of-above}
 use Rattle.pcm_feeder.specs.declared.kind.Kind.{Kind}
 use Rattle.pcm_feeder.specs.Kept.{Kept}
 use Rattle.pcm_feeder.specs.Streams.{frames_of, interleaved}
-use Rattle.pcm_feeder.proofs.Frames.{frames_of-interleaved, length-frames_of}
+use Rattle.pcm_feeder.proofs.Frames.{frames_of-interleaved}
 use Rattle.pcm_desk.specs.declared.device.Device.{Device}
 use Rattle.pcm_desk.specs.declared.device.Held.{Held}
 use Rattle.pcm_desk.specs.declared.record_book.RecordBook.{RecordBook}
@@ -129,16 +128,8 @@ slots_stand : {B : Type 0} (kind : B → Kind) (kept : B → Kept) (device : Dev
     → RecordersMove kind kept device (samples_brought (device_settings device).layout pool story.desk.handed event) event before now → RecordersStand kept device pool before story
     → (slot : ℕ) (other : RecordChannelOf B) → slot < length now
     → RecordStands kept (filters_of device) (get_or now slot other) (record_at device (told device pool story event).desk slot) (bytes_kept device (told device pool story event) slot) (frames_captured device pool (told device pool story event) slot)
-slots_stand kind kept device own pool story (Open fd way settings) before now d c fits seen_is are b n same moves s = still kind kept device pool story (Open fd way settings) before now fits refl b n same moves s
-slots_stand kind kept device own pool story (Write fd source at count) before now d c fits seen_is are b n same moves s = still kind kept device pool story (Write fd source at count) before now fits refl b n same moves s
-slots_stand kind kept device own pool story (Poke fd offset at count) before now d c fits seen_is are b n same moves s = still kind kept device pool story (Poke fd offset at count) before now fits refl b n same moves s
-slots_stand kind kept device own pool story (Read fd count) before now d c fits seen_is are b n same moves s = still kind kept device pool story (Read fd count) before now fits refl b n same moves s
-slots_stand kind kept device own pool story (Ioctl fd request) before now d c fits seen_is are b n same moves s = still kind kept device pool story (Ioctl fd request) before now fits refl b n same moves s
-slots_stand kind kept device own pool story (Join fd group) before now d c fits seen_is are b n same moves s = still kind kept device pool story (Join fd group) before now fits refl b n same moves s
-slots_stand kind kept device own pool story (StartGroup fd group) before now d c fits seen_is are b n same moves s = still kind kept device pool story (StartGroup fd group) before now fits refl b n same moves s
-slots_stand kind kept device own pool story (Close fd) before now d c fits seen_is are b n same moves s = still kind kept device pool story (Close fd) before now fits refl b n same moves s
-slots_stand kind kept device own pool story (Mixer request) before now d c fits seen_is are b n same moves s = still kind kept device pool story (Mixer request) before now fits refl b n same moves s
 slots_stand kind kept device own pool story (Intr frames) before now d c fits seen_is are b n same moves s = heard kind kept device own pool story frames before now d c seen_is are b n same moves s
+slots_stand kind kept device own pool story event before now d c fits seen_is are b n same moves s = still kind kept device pool story event before now fits refl b n same moves s
 
 -- What stood for a story stands, one step on, for the story with one event more.
 pub recorders-told : {B : Type 0} (kind : B → Kind) (kept : B → Kept) (device : DeviceSeen) (own : Device) (pool : Pool) (story : Story) (event : Event) (old new : Desk) (before now : List (RecordChannelOf B)) → IsCaptureIn (device_settings device).layout pool → Fits device pool event
@@ -152,14 +143,6 @@ recorders-told kind kept device own pool story event old new before now c fits s
       valid = recordings-told device pool story event v.limits c fits s.valid;
     }
 
--- no more frames are captured than there are samples for
-pub length-captured : (layout : Layout) (n : ℕ) (samples : List ℤ) → length samples ≤ n * channels_of layout → length (frames_of (channels_of layout) samples) ≤ n
-length-captured layout n samples few =
-    let above = channels_of-above layout in
-    let long = length-frames_of (channels_of layout) samples in
-    let below = div_below (length samples) (channels_of layout) (suc n) above (omega (arith, few, above)) in
-    omega (arith, long, below)
-
 -- ---- what is ready, and what reads get
 
 -- channels that were ready are ready after an event
@@ -171,17 +154,9 @@ recorders-ready {B = B} kind kept device samples event before now same moves rea
     plain each = λ slot other within. record-ready-moved kind kept (filters_of device) [] 0 (get_or before slot other) (get_or now slot other) (each slot other (omega arith)) (ready slot other (omega arith))
 
     at : (e : Event) → RecordersMove kind kept device samples e before now → All (IsRecordReady kind kept (filters_of device)) now
-    at (Open fd way settings) each = plain each
-    at (Write fd source place count) each = plain each
-    at (Poke fd offset place count) each = plain each
-    at (Read fd count) each = plain each
-    at (Ioctl fd request) each = plain each
-    at (Join fd group) each = plain each
-    at (StartGroup fd group) each = plain each
-    at (Close fd) each = plain each
-    at (Mixer request) each = plain each
     at (Intr n) each = λ slot other within.
         record-ready-moved kind kept (filters_of device) _ _ (get_or before slot other) (get_or now slot other) (each slot other (omega arith)).moves (ready slot other (omega arith))
+    at event each = plain each
 
 -- each channel stands for its book, its bytes and its frames
 pub all-record : {B : Type 0} (kept : B → Kept) (device : DeviceSeen) (pool : Pool) (story : Story) (recorders : List (RecordChannelOf B)) → story.desk.recording ≡ record_books_of recorders → RecordersStand kept device pool recorders story
@@ -202,9 +177,6 @@ read_counted device pool handed count false book recording e v =
 
 -- the bytes that come with the reply to an event are those of the story
 pub answered-told : (device : DeviceSeen) (pool : Pool) (story : Story) (event : Event) → RecordingsAreValid device pool story → bytes_answered device story.desk (bytes_kept device story) event ≡ bytes_to device story event
-answered-told device pool story (Open fd way settings) v = refl
-answered-told device pool story (Write fd source at count) v = refl
-answered-told device pool story (Poke fd offset at count) v = refl
 answered-told device pool story (Read fd count) v = held_at (held_by story.desk fd)
   where
     way_at : (way : Way) (slot : ℕ)
@@ -217,12 +189,7 @@ answered-told device pool story (Read fd count) v = held_at (held_by story.desk 
     held_at : (held : Option Held) → bytes_read device story.desk (bytes_kept device story) count held ≡ bytes_got device story count held
     held_at None = refl
     held_at (Some held) = way_at held.way held.slot
-answered-told device pool story (Ioctl fd request) v = refl
-answered-told device pool story (Join fd group) v = refl
-answered-told device pool story (StartGroup fd group) v = refl
-answered-told device pool story (Close fd) v = refl
-answered-told device pool story (Mixer request) v = refl
-answered-told device pool story (Intr n) v = refl
+answered-told device pool story event v = refl
 
 -- a reply that has this result and these bytes
 pub reply-made : (reply : Reply) (result : Result Answer Errno) (bytes : List ℕ) → reply.result ≡ result → reply.bytes ≡ bytes → reply ≡ record { result = result; bytes = bytes }

@@ -4,7 +4,7 @@ use Rattle.std.proofs.lemmas.List.{append-nil, take-append-le, get_or-map}
 use Rattle.std.proofs.Math.Seq.{take-add}
 use Rattle.std.proofs.Math.Nat.{mul-le-mul_right}
 use Rattle.pcm_oss.specs.declared.event.Event.{Event}
-use Rattle.pcm_oss.specs.declared.event.Event.TheVariants.{Open, Write, Poke, Read, Ioctl, Join, StartGroup, Close, Mixer, Intr}
+use Rattle.pcm_oss.specs.declared.event.Event.TheVariants.{Write, Intr}
 use Rattle.pcm_wave.specs.declared.pool.Pool.{Pool}
 use Rattle.pcm_feeder.specs.declared.kind.Kind.{Kind}
 use Rattle.pcm_feeder.specs.Kept.{Kept}
@@ -102,10 +102,6 @@ marks device pool story event slot =
 counts_told : (device : DeviceSeen) (pool : Pool) (story : Story) (event : Event) (slot : ℕ) → Fits device pool event → StoryIsValid device story
     → (play_at device (told device pool story event).desk slot).written ≤ (play_at device story.desk slot).written + length (moved_in pool event)
     → Counts device pool story event slot
-counts_told device pool story (Open fd way settings) slot fits v more = record {
-  are = marks device pool story (Open fd way settings) slot
-      ∙ counted-kept (play_at device story.desk slot) (play_at device (told device pool story (Open fd way settings)).desk slot).written (newest_bytes (story.runs slot)) (omega arith);
-}
 counts_told device pool story (Write fd source at count) slot fits v more =
     let w = writes-some device story.desk fd source at count slot in
     record {
@@ -113,34 +109,6 @@ counts_told device pool story (Write fd source at count) slot fits v more =
           ∙ counted-written device story.desk.mixed pool source at count w.accepted (play_at device story.desk slot) (play_at device (told device pool story (Write fd source at count)).desk slot).written (story.runs slot)
           (v.slots slot) fits.2.within w.accepts.written w.within;
     }
-counts_told device pool story (Poke fd offset at count) slot fits v more = record {
-  are = marks device pool story (Poke fd offset at count) slot
-      ∙ counted-kept (play_at device story.desk slot) (play_at device (told device pool story (Poke fd offset at count)).desk slot).written (newest_bytes (story.runs slot)) (omega arith);
-}
-counts_told device pool story (Read fd count) slot fits v more = record {
-  are = marks device pool story (Read fd count) slot
-      ∙ counted-kept (play_at device story.desk slot) (play_at device (told device pool story (Read fd count)).desk slot).written (newest_bytes (story.runs slot)) (omega arith);
-}
-counts_told device pool story (Ioctl fd request) slot fits v more = record {
-  are = marks device pool story (Ioctl fd request) slot
-      ∙ counted-kept (play_at device story.desk slot) (play_at device (told device pool story (Ioctl fd request)).desk slot).written (newest_bytes (story.runs slot)) (omega arith);
-}
-counts_told device pool story (Join fd group) slot fits v more = record {
-  are = marks device pool story (Join fd group) slot
-      ∙ counted-kept (play_at device story.desk slot) (play_at device (told device pool story (Join fd group)).desk slot).written (newest_bytes (story.runs slot)) (omega arith);
-}
-counts_told device pool story (StartGroup fd group) slot fits v more = record {
-  are = marks device pool story (StartGroup fd group) slot
-      ∙ counted-kept (play_at device story.desk slot) (play_at device (told device pool story (StartGroup fd group)).desk slot).written (newest_bytes (story.runs slot)) (omega arith);
-}
-counts_told device pool story (Close fd) slot fits v more = record {
-  are = marks device pool story (Close fd) slot
-      ∙ counted-kept (play_at device story.desk slot) (play_at device (told device pool story (Close fd)).desk slot).written (newest_bytes (story.runs slot)) (omega arith);
-}
-counts_told device pool story (Mixer request) slot fits v more = record {
-  are = marks device pool story (Mixer request) slot
-      ∙ counted-kept (play_at device story.desk slot) (play_at device (told device pool story (Mixer request)).desk slot).written (newest_bytes (story.runs slot)) (omega arith);
-}
 counts_told device pool story (Intr n) slot fits v more =
     let old : PlayBook = play_at device story.desk slot in
     let written : ℕ = (play_at device (told device pool story (Intr n)).desk slot).written in
@@ -149,6 +117,10 @@ counts_told device pool story (Intr n) slot fits v more =
           ∙ ap (take written) (newest_bytes-playing device story.desk.mixed (mixed_by device story.desk.handed n) old (story.runs slot))
           ∙ counted-kept old written (newest_bytes (story.runs slot)) (omega arith);
     }
+counts_told device pool story event slot fits v more = record {
+  are = marks device pool story event slot
+      ∙ counted-kept (play_at device story.desk slot) (play_at device (told device pool story event).desk slot).written (newest_bytes (story.runs slot)) (omega arith);
+}
 
 -- each channel stands for its slot after an event
 slots_stand : {B : Type 0} (kind : B → Kind) (kept : B → Kept) (plain : Device) (filters : Filters) (pool : Pool) (story : Story) (event : Event) (before now : Parts B)
@@ -218,24 +190,6 @@ bus_before kept device story parts s = (s.bus, s.ring_is)
 bus_told : {B : Type 0} (kind : B → Kind) (kept : B → Kept) (plain : Device) (filters : Filters) (pool : Pool) (story : Story) (event : Event) (before now : Parts B)
     → Fits (seen filters plain) pool event → StoryStep kind kept plain filters pool story event before now → StandsFor kept (seen filters plain) story.desk before story
     → BusStands kept (seen filters plain) now (told (seen filters plain) pool story event)
-bus_told kind kept plain filters pool story (Open fd way settings) before now fits st s =
-    bus_kept kept (seen filters plain) pool story (Open fd way settings) before now fits refl st.bus s.valid (bus_before kept (seen filters plain) story before s)
-bus_told kind kept plain filters pool story (Write fd source at count) before now fits st s =
-    bus_kept kept (seen filters plain) pool story (Write fd source at count) before now fits refl st.bus s.valid (bus_before kept (seen filters plain) story before s)
-bus_told kind kept plain filters pool story (Poke fd offset at count) before now fits st s =
-    bus_kept kept (seen filters plain) pool story (Poke fd offset at count) before now fits refl st.bus s.valid (bus_before kept (seen filters plain) story before s)
-bus_told kind kept plain filters pool story (Read fd count) before now fits st s =
-    bus_kept kept (seen filters plain) pool story (Read fd count) before now fits refl st.bus s.valid (bus_before kept (seen filters plain) story before s)
-bus_told kind kept plain filters pool story (Ioctl fd request) before now fits st s =
-    bus_kept kept (seen filters plain) pool story (Ioctl fd request) before now fits refl st.bus s.valid (bus_before kept (seen filters plain) story before s)
-bus_told kind kept plain filters pool story (Join fd group) before now fits st s =
-    bus_kept kept (seen filters plain) pool story (Join fd group) before now fits refl st.bus s.valid (bus_before kept (seen filters plain) story before s)
-bus_told kind kept plain filters pool story (StartGroup fd group) before now fits st s =
-    bus_kept kept (seen filters plain) pool story (StartGroup fd group) before now fits refl st.bus s.valid (bus_before kept (seen filters plain) story before s)
-bus_told kind kept plain filters pool story (Close fd) before now fits st s =
-    bus_kept kept (seen filters plain) pool story (Close fd) before now fits refl st.bus s.valid (bus_before kept (seen filters plain) story before s)
-bus_told kind kept plain filters pool story (Mixer request) before now fits st s =
-    bus_kept kept (seen filters plain) pool story (Mixer request) before now fits refl st.bus s.valid (bus_before kept (seen filters plain) story before s)
 bus_told kind kept plain filters pool story (Intr n) before now fits st s =
     let device : DeviceSeen = seen filters plain in
     let handed : ℕ = story.desk.handed in
@@ -258,6 +212,8 @@ bus_told kind kept plain filters pool story (Intr n) before now fits st s =
           ∙ ap (λ (frames : List Frame). turned_ring (device_settings device) n (interleaved (recs (parent_plan device) (filters_of device) frames handed n)) before.ring) all
           ∙ ring-on device pool story n before.ring s.valid fits.1 s.ring_is,
     )
+bus_told kind kept plain filters pool story event before now fits st s =
+    bus_kept kept (seen filters plain) pool story event before now fits refl st.bus s.valid (bus_before kept (seen filters plain) story before s)
 
 -- ---- all parts
 
@@ -301,15 +257,6 @@ body_kept device pool story event ring fits none v =
 -- what an event gives to the device is the front of the device's ring
 pub body-told : {B : Type 0} (kept : B → Kept) (device : DeviceSeen) (pool : Pool) (story : Story) (event : Event) (desk : Desk) (parts : Parts B) → Fits device pool event → StandsFor kept device desk parts story
     → device_body device (told device pool story event) ≡ device_body device story ++ take (bytes_handed device event) parts.ring
-body-told kept device pool story (Open fd way settings) desk parts fits s = body_kept device pool story (Open fd way settings) parts.ring fits refl s.valid
-body-told kept device pool story (Write fd source at count) desk parts fits s = body_kept device pool story (Write fd source at count) parts.ring fits refl s.valid
-body-told kept device pool story (Poke fd offset at count) desk parts fits s = body_kept device pool story (Poke fd offset at count) parts.ring fits refl s.valid
-body-told kept device pool story (Read fd count) desk parts fits s = body_kept device pool story (Read fd count) parts.ring fits refl s.valid
-body-told kept device pool story (Ioctl fd request) desk parts fits s = body_kept device pool story (Ioctl fd request) parts.ring fits refl s.valid
-body-told kept device pool story (Join fd group) desk parts fits s = body_kept device pool story (Join fd group) parts.ring fits refl s.valid
-body-told kept device pool story (StartGroup fd group) desk parts fits s = body_kept device pool story (StartGroup fd group) parts.ring fits refl s.valid
-body-told kept device pool story (Close fd) desk parts fits s = body_kept device pool story (Close fd) parts.ring fits refl s.valid
-body-told kept device pool story (Mixer request) desk parts fits s = body_kept device pool story (Mixer request) parts.ring fits refl s.valid
 body-told kept device pool story (Intr n) desk parts fits s =
     let z : ℕ = device_frame_bytes device in
     let handed : ℕ = story.desk.handed in
@@ -325,3 +272,4 @@ body-told kept device pool story (Intr n) desk parts fits s =
     ∙ take-add (handed * z) (n * z) bytes
     ∙ ap (λ front. front ++ take (n * z) (drop (handed * z) bytes)) (sym (device_body-bytes device story s.valid))
     ∙ ap (λ rest. device_body device story ++ take (n * z) rest) (sym s.ring_is)
+body-told kept device pool story event desk parts fits s = body_kept device pool story event parts.ring fits refl s.valid

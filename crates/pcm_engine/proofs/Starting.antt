@@ -1,5 +1,5 @@
 -- Free channels and a silent ring stand for the story before the first event.
-use Rattle.std.proofs.Common.{◌≡◌, ℕ, zero, suc, ◌+◌, ◌*◌, ◌<◌, List, [], ◌++◌, length, get_or, take, replicate, None, All, pos, refl, sym, ap, ◌∙◌, subst, arith}
+use Rattle.std.proofs.Common.{map, ◌≡◌, ℕ, zero, suc, ◌+◌, ◌*◌, ◌<◌, List, [], ◌++◌, length, get_or, take, replicate, None, All, pos, refl, sym, ap, ◌∙◌, subst, arith}
 use Rattle.std.specs.List.{flat_map}
 use Rattle.std.proofs.lemmas.List.{get_or-map, get_or-replicate, length-map, length-replicate, same_lists, replicate-append-replicate, append-nil}
 use Rattle.std.proofs.lemmas.List.Concat.{flat_map-append}
@@ -35,8 +35,6 @@ use Rattle.pcm_record.specs.declared.channel.RecordChannelOf.{RecordChannelOf}
 use Rattle.pcm_record.specs.Channels.{IsRecordReady, IsRecordUnopened, RecordStands}
 use Rattle.pcm_map.specs.declared.channel.MapChannelOf.{MapChannelOf}
 use Rattle.pcm_map.specs.Channels.{IsMapReady, IsMapUnopened, MapStands}
-use Rattle.pcm_bus.specs.Slots.{map_books_of, play_books_of}
-use Rattle.pcm_vchan.specs.Slots.{record_books_of}
 use Rattle.pcm_play.specs.Channels.{PlayStands, IsPlayReady, IsPlayUnopened}
 use Rattle.pcm_bus.specs.Blocks.{silent_ring}
 use Rattle.pcm_bus.specs.Handovers.{HasMade}
@@ -55,22 +53,20 @@ spelled-silence format settings (suc n) =
     ∙ sym (flat_map-append (spelled format) (replicate (channels_of settings.layout) (pos 0)) (replicate (n * channels_of settings.layout) (pos 0)))
     ∙ ap (flat_map (spelled format)) (replicate-append-replicate (channels_of settings.layout) (n * channels_of settings.layout) (pos 0) ∙ ap (λ k. replicate k (pos 0)) (sym more))
 
+-- the books of channels, where all are this one
+pub books-unopened : {X Book : Type 0} (book : X → Book) (channels : List X) (n : ℕ) (none : Book) → length channels ≡ n → All (λ (channel : X). book channel ≡ none) channels → map book channels ≡ replicate n none
+books-unopened {X} book channels n none slots each =
+    same_lists (map book channels) (replicate n none) (length-map channels book ∙ slots ∙ sym (length-replicate n none))
+    (λ k d within.
+    let there : k < length channels = omega (arith, length-map channels book) in
+    let other : X = some_channel channels k there in
+    get_or-map book channels k other d there ∙ each k other there ∙ sym (get_or-replicate n k none d (omega arith)))
+
 -- channels that nobody has opened are ready
 pub ready-unopened : {B : Type 0} (kind : B → Kind) (kept : B → Kept) (filters : Filters) (device : Device) (channels : List (PlayChannelOf B)) → All (IsPlayUnopened kind kept filters device) channels → All (IsPlayReady kind kept filters) channels
 ready-unopened kind kept filters device channels each = λ slot other there.
     let u = each slot other there in
     record { kinds = u.kinds; planned = λ used. u.planned; stands = record { bytes = []; stands = u.stands } }
-
--- the books of channels that nobody has opened
-pub play_books_of-play_unopened : {B : Type 0} (kind : B → Kind) (kept : B → Kept) (filters : Filters) (device : Device) (channels : List (PlayChannelOf B)) → length channels ≡ device.play_slots → All (IsPlayUnopened kind kept filters device) channels
-    → play_books_of channels ≡ replicate device.play_slots (play_unopened (seen filters device))
-play_books_of-play_unopened {B = B} kind kept filters device channels slots each =
-    same_lists (play_books_of channels) (replicate device.play_slots (play_unopened (seen filters device)))
-    (length-map channels (λ (c : PlayChannelOf B). c.book) ∙ slots ∙ sym (length-replicate device.play_slots (play_unopened (seen filters device))))
-    (λ k d within.
-    let there : k < length channels = omega (arith, length-map channels (λ (c : PlayChannelOf B). c.book)) in
-    let other : PlayChannelOf B = some_channel channels k there in
-    get_or-map (λ (c : PlayChannelOf B). c.book) channels k other d there ∙ (each k other there).book ∙ sym (get_or-replicate device.play_slots k (play_unopened (seen filters device)) d (omega arith)))
 
 -- ---- mapped channels
 
@@ -79,17 +75,6 @@ pub map-ready-unopened : {B : Type 0} (kind : B → Kind) (kept : B → Kept) (f
 map-ready-unopened kind kept filters device maps each = λ slot other there.
     let u = each slot other there in
     record { kinds = u.kinds; planned = λ used. u.planned; stands = record { bytes = []; stands = u.stands } }
-
--- their books
-pub map_books_of-unopened : {B : Type 0} (kind : B → Kind) (kept : B → Kept) (filters : Filters) (device : Device) (maps : List (MapChannelOf B)) → length maps ≡ device.map_slots → All (IsMapUnopened kind kept filters device) maps
-    → map_books_of maps ≡ replicate device.map_slots (map_unopened (seen filters device))
-map_books_of-unopened {B = B} kind kept filters device maps slots each =
-    same_lists (map_books_of maps) (replicate device.map_slots (map_unopened (seen filters device)))
-    (length-map maps (λ (c : MapChannelOf B). c.book) ∙ slots ∙ sym (length-replicate device.map_slots (map_unopened (seen filters device))))
-    (λ k d within.
-    let there : k < length maps = omega (arith, length-map maps (λ (c : MapChannelOf B). c.book)) in
-    let other : MapChannelOf B = some_channel maps k there in
-    get_or-map (λ (c : MapChannelOf B). c.book) maps k other d there ∙ (each k other there).book ∙ sym (get_or-replicate device.map_slots k (map_unopened (seen filters device)) d (omega arith)))
 
 -- they stand for the beginning
 map_starts : {B : Type 0} (kind : B → Kind) (kept : B → Kept) (filters : Filters) (device : Device) (slot : ℕ) (channel : MapChannelOf B) → IsMapUnopened kind kept filters device channel
@@ -125,8 +110,8 @@ pub record IsUnopened {B : Type 0} (kind : B → Kind) (kept : B → Kept) (filt
 -- its desk is that of the beginning
 unopened_desk : {B : Type 0} (kind : B → Kind) (kept : B → Kept) (filters : Filters) (device : Device) (parent : ParentOf B) (descriptors : Descriptors) → IsUnopened kind kept filters device parent descriptors → desk_with parent descriptors ≡ desk_at_start (seen filters device)
 unopened_desk kind kept filters device parent descriptors u =
-    let play = play_books_of-play_unopened kind kept filters device (play_channels parent) u.slots u.channels in
-    let mapped = map_books_of-unopened kind kept filters device (map_channels parent) u.mapped u.maps in
+    let play = books-unopened (λ channel. channel.book) (play_channels parent) device.play_slots (play_unopened (seen filters device)) u.slots (λ slot other there. (u.channels slot other there).book) in
+    let mapped = books-unopened (λ channel. channel.book) (map_channels parent) device.map_slots (map_unopened (seen filters device)) u.mapped (λ slot other there. (u.maps slot other there).book) in
     λ i. record { play = play i; recording = u.recorders i; mapped = mapped i; descriptors = u.shut i; groups = u.groups i; mixer = u.mixer i; handed = u.handed i; mixed = u.mixed i }
 
 unopened_stands : {B : Type 0} (kind : B → Kind) (kept : B → Kept) (filters : Filters) (device : Device) (parent : ParentOf B) (descriptors : Descriptors) → IsDevice (seen filters device) → IsUnopened kind kept filters device parent descriptors
@@ -163,17 +148,6 @@ pub record-ready-unopened : {B : Type 0} (kind : B → Kind) (kept : B → Kept)
 record-ready-unopened kind kept filters device recorders each = λ slot other there.
     let u = each slot other there in
     record { kinds = u.kinds; planned = λ used. u.planned; stands = record { bytes = []; frames = []; stands = u.stands } }
-
--- their books
-pub record_books_of-unopened : {B : Type 0} (kind : B → Kind) (kept : B → Kept) (filters : Filters) (device : Device) (recorders : List (RecordChannelOf B)) → length recorders ≡ device.record_slots → All (IsRecordUnopened kind kept filters device) recorders
-    → record_books_of recorders ≡ replicate device.record_slots (record_unopened (seen filters device))
-record_books_of-unopened {B = B} kind kept filters device recorders slots each =
-    same_lists (record_books_of recorders) (replicate device.record_slots (record_unopened (seen filters device)))
-    (length-map recorders (λ (c : RecordChannelOf B). c.book) ∙ slots ∙ sym (length-replicate device.record_slots (record_unopened (seen filters device))))
-    (λ k d within.
-    let there : k < length recorders = omega (arith, length-map recorders (λ (c : RecordChannelOf B). c.book)) in
-    let other : RecordChannelOf B = some_channel recorders k there in
-    get_or-map (λ (c : RecordChannelOf B). c.book) recorders k other d there ∙ (each k other there).book ∙ sym (get_or-replicate device.record_slots k (record_unopened (seen filters device)) d (omega arith)))
 
 -- they stand for the beginning
 pub recorders-start : {B : Type 0} (kind : B → Kind) (kept : B → Kept) (filters : Filters) (device : Device) (pool : Pool) (recorders : List (RecordChannelOf B)) → IsDevice (seen filters device) → All (IsRecordUnopened kind kept filters device) recorders

@@ -1,5 +1,5 @@
 -- What becomes of a desk whose parent lent one channel.
-use Rattle.std.proofs.Common.{Ok, Err, ◌≡◌, ◌+◌, ◌-◌, ℕ, ◌<◌, ◌≤◌, false, cond, eqb, List, length, set, get_or, min, take, drop, Option, Some, None, Result, refl, sym, ap, ◌∙◌, subst, arith, Bool, true}
+use Rattle.std.proofs.Common.{Ok, Err, ◌≡◌, ◌+◌, ◌-◌, ℕ, ◌<◌, ◌≤◌, false, cond, eqb, List, length, get_or, min, take, drop, Option, Some, None, Result, refl, sym, ap, ◌∙◌, subst, arith, Bool, true}
 use Rattle.std.specs.Prelude.{IsOk, is_some, not}
 use Rattle.std.proofs.lemmas.List.{length-map}
 use Rattle.pcm_oss.specs.declared.event.Way.{Way}
@@ -29,22 +29,22 @@ use Rattle.pcm_play.specs.declared.channel.PlayChannelOf.{PlayChannelOf}
 use Rattle.pcm_record.specs.declared.channel.RecordChannelOf.{RecordChannelOf}
 use Rattle.pcm_map.specs.declared.channel.MapChannelOf.{MapChannelOf}
 use Rattle.pcm_vchan.specs.declared.parent.ParentOf.{ParentOf}
-use Rattle.pcm_bus.specs.Slots.{MapAreOf, PlayAreOf}
-use Rattle.pcm_vchan.specs.Slots.{slot_place, RecordAreOf}
+use Rattle.pcm_bus.specs.Slots.{PlayAreOf}
+use Rattle.pcm_vchan.specs.Slots.{slot_place}
 use Rattle.pcm_vchan.specs.Parents.{map_books, map_channels, play_books, play_channels, record_channels, record_books, slot_or_busy}
 use Rattle.pcm_vchan.specs.Lending.{with_channel, with_map_channel, with_recorder}
 use Rattle.pcm_bus.proofs.Channels.{map_at-channel, play_at-channel}
 use Rattle.pcm_vchan.proofs.Channels.{map_books_of-set, play_books_of-set, record_at-channel, record_books_of-set}
 use Rattle.pcm_engine.specs.declared.descriptors.Descriptors.{Descriptors}
 use Rattle.pcm_engine.specs.Descriptors.{holding, is_way, shut, slot_of}
-use Rattle.pcm_engine.specs.Desks.{desk_with, channel_asked, closed_held}
+use Rattle.pcm_desk.specs.declared.here.Here.{Here}
+use Rattle.pcm_engine.specs.Desks.{desk_with, channel_asked, closed_held, poke_call, write_call, TakesTurn, TakesTurnAt}
 use Rattle.pcm_engine.specs.Steps.{bytes_read, channel_read}
 use Rattle.pcm_desk.proofs.Channels.{put-again}
 use Rattle.pcm_oss.specs.declared.event.Event.{Event}
 use Rattle.pcm_oss.specs.declared.event.Event.TheVariants.{Close, Poke, Read, Write}
 use Rattle.pcm_oss.specs.declared.request.Request.{Request}
 use Rattle.pcm_wave.specs.declared.pool.Source.{Source}
-use Rattle.pcm_wave.specs.declared.pool.Source.TheVariants.{Inline}
 
 -- ---- where a descriptor's channel is
 
@@ -83,14 +83,9 @@ slot_in (Err errno) = 0
 
 slot_way : (way other : Way) (at slot : ℕ) → cond (is_way way other) (Ok at) (Err Inval) ≡ Ok slot → channel_of other at ≡ channel_of way slot
 slot_way Play Play at slot e = ap (channel_of Play) (ap slot_in e)
-slot_way Play Record at slot e = cc
-slot_way Play Map at slot e = cc
-slot_way Record Play at slot e = cc
 slot_way Record Record at slot e = ap (channel_of Record) (ap slot_in e)
-slot_way Record Map at slot e = cc
-slot_way Map Play at slot e = cc
-slot_way Map Record at slot e = cc
 slot_way Map Map at slot e = ap (channel_of Map) (ap slot_in e)
+slot_way way other at slot e = cc
 
 pub slot-is : (way : Way) (found : Option Held) (slot : ℕ) → slot_of way found ≡ Ok slot → found ≡ Some (channel_of way slot)
 slot-is way None slot e = cc
@@ -136,19 +131,13 @@ read-refused device desk fd count found errno = refused_by device desk (Read fd 
     other Map slot is = refuses device desk (channel_of Map slot)
 
 -- of the bytes of a write and a poke only their number counts
-pub write-counts : (device : DeviceSeen) (desk : Desk) (fd : ℕ) (source : Source) (at count : ℕ) → after device desk (Write fd Inline 0 count) ≡ after device desk (Write fd source at count)
-write-counts device desk fd source at count = by (held_by desk fd)
-  where
-    by : (found : Option Held) → channel_turn device desk (Write fd Inline 0 count) found ≡ channel_turn device desk (Write fd source at count) found
-    by None = refl
-    by (Some held) = refl
+pub write-turn : {B : Type 0} {here : Here} {old new : ParentOf B} {descriptors : Descriptors} {result : Result Answer Errno} (fd : ℕ) (bytes : List ℕ) {count : ℕ} → length bytes ≡ count → TakesTurnAt here (write_call fd (length bytes)) old new descriptors result
+    → TakesTurnAt here (write_call fd count) old new descriptors result
+write-turn {B} {here} {old} {new} {descriptors} {result} fd bytes long turn = subst (λ (n : ℕ). TakesTurnAt here (write_call fd n) old new descriptors result) long turn
 
-pub poke-counts : (device : DeviceSeen) (desk : Desk) (fd offset at count : ℕ) → after device desk (Poke fd offset 0 count) ≡ after device desk (Poke fd offset at count)
-poke-counts device desk fd offset at count = by (held_by desk fd)
-  where
-    by : (found : Option Held) → channel_turn device desk (Poke fd offset 0 count) found ≡ channel_turn device desk (Poke fd offset at count) found
-    by None = refl
-    by (Some held) = refl
+pub poke-turn : {B : Type 0} {old new : ParentOf B} {descriptors : Descriptors} {result : Result Answer Errno} (fd offset : ℕ) (bytes : List ℕ) {count : ℕ} → length bytes ≡ count → TakesTurn (poke_call fd offset (length bytes)) old new descriptors result
+    → TakesTurn (poke_call fd offset count) old new descriptors result
+poke-turn {B} {old} {new} {descriptors} {result} fd offset bytes long turn = subst (λ (n : ℕ). TakesTurn (poke_call fd offset n) old new descriptors result) long turn
 
 -- ---- the slots of a parent
 
@@ -208,18 +197,13 @@ held-few parent descriptors fd held h e = at held.way refl
 pub own-lent : {B : Type 0} (device : Device) (channels : List (PlayChannelOf B)) (slot : ℕ) (lent : PlayChannelOf B) → slot < length channels → lent ≡ get_or channels slot lent → PlayAreOf device channels → lent.path.device ≡ device
 own-lent {B = B} device channels slot lent there is own = ap (λ (channel : PlayChannelOf B). channel.path.device) is ∙ own slot lent there
 
--- the books of a parent, one of whose channels changed
-pub books-lent : {B : Type 0} (how : PlayBook → PlayBook) (parent : ParentOf B) (slot : ℕ) (lent new : PlayChannelOf B) (other : PlayBook) → slot < length (play_channels parent) → lent ≡ get_or (play_channels parent) slot lent
-    → new.book ≡ how lent.book → play_books (with_channel parent slot new) ≡ set (play_books parent) slot (how (get_or (play_books parent) slot other))
-books-lent how parent slot lent new other there is changed = play_books_of-set how (play_channels parent) slot lent new other there is changed
-
 -- the desk, where the book of the channel was turned
 pub desk-played : {B : Type 0} (device : DeviceSeen) (turn : PlayBook → Turn PlayBook) (parent : ParentOf B) (descriptors : Descriptors) (slot : ℕ) (lent new : PlayChannelOf B)
     → slot < length (play_channels parent) → lent ≡ get_or (play_channels parent) slot lent → new.book ≡ (turn lent.book).book
     → desk_with (with_channel parent slot new) descriptors ≡ with_channel_at (desk_with parent descriptors) slot (Playing (turn (play_at device (desk_with parent descriptors) slot)).book)
 desk-played device turn parent descriptors slot lent new there is changed =
     ap (λ (play : List PlayBook). record { play = play; recording = record_books parent; mapped = map_books parent; descriptors = descriptors.held.value; groups = descriptors.groups; mixer = parent.mixer; handed = parent.handed; mixed = parent.mixed })
-    (books-lent (λ (book : PlayBook). (turn book).book) parent slot lent new (play_unopened device) there is changed)
+    (play_books_of-set (λ (book : PlayBook). (turn book).book) (play_channels parent) slot lent new (play_unopened device) there is changed)
 
 -- and the reply
 pub reply-played : {B : Type 0} (device : DeviceSeen) (turn : PlayBook → Turn PlayBook) (parent : ParentOf B) (descriptors : Descriptors) (slot : ℕ) (lent : PlayChannelOf B) (answer : Result Answer Errno)
@@ -229,9 +213,6 @@ reply-played device turn parent descriptors slot lent answer there is answered =
     answered ∙ ap (λ (book : PlayBook). (turn book).reply) (play_at-channel (play_channels parent) slot lent (play_unopened device) there is)
 
 -- ---- channels that record
-
-pub own-lent_record : {B : Type 0} (device : Device) (channels : List (RecordChannelOf B)) (slot : ℕ) (lent : RecordChannelOf B) → slot < length channels → lent ≡ get_or channels slot lent → RecordAreOf device channels → lent.path.device ≡ device
-own-lent_record {B = B} device channels slot lent there is own = ap (λ (channel : RecordChannelOf B). channel.path.device) is ∙ own slot lent there
 
 pub desk-recorded : {B : Type 0} (device : DeviceSeen) (turn : RecordBook → Turn RecordBook) (parent : ParentOf B) (descriptors : Descriptors) (slot : ℕ) (lent new : RecordChannelOf B)
     → slot < length (record_channels parent) → lent ≡ get_or (record_channels parent) slot lent → new.book ≡ (turn lent.book).book
@@ -247,9 +228,6 @@ reply-recorded device turn parent descriptors slot lent answer there is answered
     answered ∙ ap (λ (book : RecordBook). (turn book).reply) (record_at-channel (record_channels parent) slot lent (record_unopened device) there is)
 
 -- ---- mapped channels
-
-pub own-lent_map : {B : Type 0} (device : Device) (channels : List (MapChannelOf B)) (slot : ℕ) (lent : MapChannelOf B) → slot < length channels → lent ≡ get_or channels slot lent → MapAreOf device channels → lent.path.device ≡ device
-own-lent_map {B = B} device channels slot lent there is own = ap (λ (channel : MapChannelOf B). channel.path.device) is ∙ own slot lent there
 
 pub desk-mapped : {B : Type 0} (device : DeviceSeen) (turn : MapBook → Turn MapBook) (parent : ParentOf B) (descriptors : Descriptors) (slot : ℕ) (lent new : MapChannelOf B)
     → slot < length (map_channels parent) → lent ≡ get_or (map_channels parent) slot lent → new.book ≡ (turn lent.book).book
@@ -278,9 +256,8 @@ map-unfree device parent descriptors fd held lent h e is there lent_is =
 
 -- a descriptor that is refused as it holds none
 unmapped_way : (way : Way) (at slot : ℕ) (errno : Errno) → cond (is_way Map way) (Ok at) (Err Inval) ≡ Err errno → by_way way false false (eqb at slot) ≡ false
-unmapped_way Play at slot errno e = refl
-unmapped_way Record at slot errno e = refl
 unmapped_way Map at slot errno e = cc
+unmapped_way way at slot errno e = refl
 
 pub unmapped : (found : Option Held) (errno : Errno) → slot_of Map found ≡ Err errno → (slot : ℕ) → holds_map found slot ≡ false
 unmapped None errno e slot = refl

@@ -29,7 +29,7 @@ pub record CanBeAsked {B : Type 0} (kind : B → Kind) (kept : B → Kept) (filt
 
 -- By these filters a call leaves this of a parent: every channel is its device's still, and all else is as it was. These bytes move into those that play at
 -- most, and this is written into areas.
-pub record Leaves {B : Type 0} (kind : B → Kind) (kept : B → Kept) (filters : Filters) (moved : List ℕ) (writes : ℕ → List ℕ → List ℕ) (old new : ParentOf B) : Type 0 where
+pub record LeavesParent {B : Type 0} (kind : B → Kind) (kept : B → Kept) (filters : Filters) (moved : List ℕ) (writes : ℕ → List ℕ → List ℕ) (old new : ParentOf B) : Type 0 where
   pub own : AreOwn new
   pub output : KeepsOutput old new
   pub channels : EachPlayMoves kind kept filters moved 0 old new
@@ -42,4 +42,4 @@ pub record AnswersBy {B : Type 0} (kind : B → Kind) (kept : B → Kept) (filte
   pub refused : OnErr result ((new ≡ old) × (after ≡ before))
   pub desk : ChangesBy filters turn old before new after
   pub reply : RepliesBy filters turn old before result
-  pub leaves : Leaves kind kept filters [] untouched old new
+  pub leaves : LeavesParent kind kept filters [] untouched old new

@@ -17,7 +17,7 @@ pub record AreOwn {B : Type 0} (parent : ParentOf B) : Type 0 where
   pub mapped : MapAreOf parent.device (map_channels parent)
 
 -- A parent and descriptors are in order: besides, no two descriptors hold one slot, no count runs ahead, and few frames were handed over.
-pub record AreInOrder {B : Type 0} (parent : ParentOf B) (descriptors : Descriptors) : Type 0 where
+pub record PartsInOrder {B : Type 0} (parent : ParentOf B) (descriptors : Descriptors) : Type 0 where
   pub own : AreOwn parent
   pub apart : HoldApart (desk_with parent descriptors)
   pub pace : KeepsPace (desk_with parent descriptors)

@@ -12,7 +12,7 @@ ghost use Rattle.pcm_desk.specs.declared.limits.TheConstants.{DESCRIPTORS, READ_
 ghost use Rattle.pcm_desk.specs.Own.{HoldApart};
 ghost use Rattle.pcm_vchan.specs.Lending.{LendsMapAt};
 ghost use Rattle.pcm_vchan.specs.Parents.{map_channels, play_channels, untouched, AreClosable, AreServed, TotalsFit};
-ghost use Rattle.pcm_engine.specs.Answered.{AnswersBy, CanBeAsked, Leaves};
+ghost use Rattle.pcm_engine.specs.Answered.{AnswersBy, CanBeAsked, LeavesParent};
 ghost use Rattle.pcm_engine.specs.Invariants.{AreOwn};
 ghost use Rattle.pcm_engine.specs.Desks.{front_due, close_call, desk_with, ioctl_call, open_call, poke_call, read_call, write_call, Closes, ClosesHeld, ReadsKept, Replies, TakesTurn, TakesTurnAt};
 ghost use Rattle.pcm_engine.specs.Steps.{poked_by};
@@ -62,7 +62,7 @@ pub fn write<B: Feeder>(
     ensures silent { bytes_due result ≡ 0 }
     ensures refused { OnErr result (parent.new ≡ parent.old) }
     ensures turn { TakesTurnAt here (write_call fd (length bytes.now)) parent.old parent.new descriptors.now result }
-    ensures leaves { (filters : Filters) → Leaves B.kind B.kept filters bytes.now untouched parent.old parent.new }
+    ensures leaves { (filters : Filters) → LeavesParent B.kind B.kept filters bytes.now untouched parent.old parent.new }
 {
     let slot = descriptors.slot_of(fd, Way::Play)?;
     parent.play(slot).write(bytes, here)
@@ -82,7 +82,7 @@ pub fn poke<B: Feeder>(
     ensures silent { bytes_due result ≡ 0 }
     ensures refused { OnErr result (parent.new ≡ parent.old) }
     ensures turn { TakesTurn (poke_call fd offset (length bytes.now)) parent.old parent.new descriptors.now result }
-    ensures leaves { (filters : Filters) → Leaves B.kind B.kept filters []
+    ensures leaves { (filters : Filters) → LeavesParent B.kind B.kept filters []
         (poked_by fd offset bytes.now (desk_with parent.old descriptors.now)) parent.old parent.new }
 {
     let slot = descriptors.slot_of(fd, Way::Map)?;
@@ -104,7 +104,7 @@ fn read<B: Feeder>(
     ensures within { bytes_due result ≤ length out.old }
     ensures length { length out.new ≡ length out.old }
     ensures bytes { ReadsKept B.kept parent.old descriptors.now fd (length out.old) (front_due result out.new) }
-    ensures leaves { (filters : Filters) → Leaves B.kind B.kept filters [] untouched parent.old parent.new }
+    ensures leaves { (filters : Filters) → LeavesParent B.kind B.kept filters [] untouched parent.old parent.new }
 {
     let slot = descriptors.slot_of(fd, Way::Record)?;
     parent.recorder(slot).read(out)
@@ -128,7 +128,7 @@ pub fn answer_read<B: Feeder>(
     ensures refused { IsErr reply.new.result → parent.new ≡ parent.old }
     ensures turn { TakesTurn (read_call fd len) parent.old parent.new descriptors.now reply.new.result }
     ensures bytes { ReadsKept B.kept parent.old descriptors.now fd len reply.new.bytes }
-    ensures leaves { (filters : Filters) → Leaves B.kind B.kept filters [] untouched parent.old parent.new }
+    ensures leaves { (filters : Filters) → LeavesParent B.kind B.kept filters [] untouched parent.old parent.new }
 {
     let answer = read(parent, descriptors, fd, &mut bytes[..len as usize]);
     reply.keep(answer, bytes);
@@ -169,7 +169,7 @@ pub fn close<B: Feeder>(
     requires closable { AreClosable B.kind parent.old }
     requires count { TotalsFit parent.old }
     ensures silent { bytes_due result ≡ 0 }
-    ensures leaves { (filters : Filters) → Leaves B.kind B.kept filters [] untouched parent.old parent.new }
+    ensures leaves { (filters : Filters) → LeavesParent B.kind B.kept filters [] untouched parent.old parent.new }
     ensures refused { OnErr result ((parent.new ≡ parent.old) × (descriptors.new ≡ descriptors.old)) }
     ensures desk { Closes B.kind B.kept here fd parent.old descriptors.old parent.new descriptors.new }
     ensures reply { Replies (close_call fd) parent.old descriptors.old result }
@@ -189,7 +189,7 @@ fn close_channel<B: Feeder>(parent: &mut ParentOf<B>, held: Held, here: Here) ->
     requires closable { AreClosable B.kind parent.old }
     requires count { TotalsFit parent.old }
     ensures answer { result ≡ Answer.Done }
-    ensures leaves { (filters : Filters) → Leaves B.kind B.kept filters [] untouched parent.old parent.new }
+    ensures leaves { (filters : Filters) → LeavesParent B.kind B.kept filters [] untouched parent.old parent.new }
     ensures desk { ClosesHeld B.kind B.kept here held parent.old parent.new }
 {
     match held.way {

@@ -8,7 +8,7 @@ ghost use Rattle.pcm_desk.specs.Device.{seen};
 ghost use Rattle.pcm_vchan.specs.Parents.{HasRacks};
 ghost use Rattle.pcm_desk.proofs.Props.{hold_props};
 ghost use Rattle.pcm_engine.specs.Applied.{Applied};
-ghost use Rattle.pcm_engine.specs.Invariants.{AreInOrder};
+ghost use Rattle.pcm_engine.specs.Invariants.{PartsInOrder};
 ghost use Rattle.pcm_oss.specs.Replies.{bytes_due};
 ghost use Rattle.pcm_oss.specs.declared.reply.TheConstants.{REPLY_BYTES};
 ghost use Rattle.pcm_format.specs.Layouts.{channels_of};
@@ -35,7 +35,7 @@ pub struct EngineOf<B> {
     pub(crate) descriptors: Descriptors,
     captured: Fixed<i32>,
     answered: Fixed<u8>,
-    ghost order: { AreInOrder parent descriptors } by { Prim.hlevel hold_props },
+    ghost order: { PartsInOrder parent descriptors } by { Prim.hlevel hold_props },
     ghost captured_size: { fixed_len captured ≡ parent.device.ring_frames * channels_of parent.device.settings.layout },
     ghost answered_size: { fixed_len answered ≡ REPLY_BYTES },
 }

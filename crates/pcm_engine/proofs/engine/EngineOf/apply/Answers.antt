@@ -1,23 +1,19 @@
-use Rattle.std.proofs.Common.{inl, ℕ, ℤ, List, get_or, take, refl, sym, ap, ◌∙◌, subst, arith}
+use Rattle.std.proofs.Common.{inl, ℤ, List, take, refl, ap, ◌∙◌, subst, arith}
 use Rattle.std.proofs.lemmas.Result.{on_err_weaker}
-use Rattle.pcm_oss.specs.declared.event.Event.{Event}
 use Rattle.pcm_oss.specs.declared.event.Event.TheVariants.{Intr}
 use Rattle.pcm_oss.specs.declared.reply.Answer.TheVariants.{Number}
 use Rattle.pcm_oss.specs.Replies.{Reply}
-use Rattle.pcm_desk.specs.declared.device.Device.{Device}
-use Rattle.pcm_desk.specs.Device.{IsDevice, seen}
-use Rattle.pcm_record.proofs.Capturing.{capture-fits}
 use Rattle.pcm_vchan.specs.declared.parent.ParentOf.{ParentOf}
-use Rattle.pcm_vchan.specs.Parents.{map_channels, mixed_in, record_channels}
-use Rattle.pcm_engine.specs.Applied.{Applied}
-use Rattle.pcm_engine.specs.Desks.{desk_with, poke_call, write_call, TakesTurn, TakesTurnAt}
-use Rattle.pcm_engine.specs.Engines.{device_of, samples_at_hand, samples_most}
+use Rattle.pcm_vchan.specs.Parents.{record_channels}
+use Rattle.pcm_engine.specs.Desks.{desk_with}
+use Rattle.pcm_engine.specs.Engines.{device_of, samples_most}
+use Rattle.pcm_engine.specs.Invariants.{AreOwn}
 use Rattle.pcm_engine.specs.Steps.{RecordersMove}
-use Rattle.pcm_engine.proofs.Applying.{accepted, applied-answer, applied-call, applied-mixer, order-after, own-mixed, samples-sized}
-use Rattle.pcm_engine.proofs.Buses.{mixes-few}
+use Rattle.pcm_engine.proofs.Applying.{accepted, applied-answer, applied-call, applied-interrupt, applied-mixer, order-after, own-mixed}
+use Rattle.pcm_engine.proofs.Applying.{samples-sized}
 use Rattle.pcm_engine.proofs.Desks.{desk-interrupted}
-use Rattle.pcm_engine.proofs.Fitting.{counts-fit, mixed-few}
-use Rattle.pcm_engine.proofs.InOrder.{bytes-counted, can-be-asked, closable, few-mixed, here-seen, map-pace, play-pace, record-pace, served}
+use Rattle.pcm_engine.proofs.InOrder.{bytes-counted, can-be-asked, closable, due, few-mixed, here-seen, served}
+use Rattle.pcm_engine.proofs.Turning.{poke-turn, write-turn}
 use Rattle.pcm_engine.proofs.engine.EngineOf.apply.Goals as goal
 
 -- ---- calls that answer by their turn
@@ -30,7 +26,7 @@ returns-in-Open-clause-applied g c =
 pub invariant_of-self-clause-order : goal.invariant_of-self-clause-order
 invariant_of-self-clause-order g c =
     let a = c.open.ensures in
-    order-after g.B.Feeder.kind g.B.Feeder.kept c.args.self.now _ _ _ _ c.requires.ready c.requires.within c.requires.life c.in-Open.is a.leaves.own a.desk
+    order-after c.requires.ready c.requires.within c.requires.life c.in-Open.is a.leaves.own a.desk
 
 pub returns-in-Ioctl-clause-applied : goal.returns-in-Ioctl-clause-applied
 returns-in-Ioctl-clause-applied g c =
@@ -40,7 +36,7 @@ returns-in-Ioctl-clause-applied g c =
 pub invariant_of-self-in-Ioctl-clause-order : goal.invariant_of-self-in-Ioctl-clause-order
 invariant_of-self-in-Ioctl-clause-order g c =
     let a = c.ioctl.ensures in
-    order-after g.B.Feeder.kind g.B.Feeder.kept c.args.self.now _ _ _ _ c.requires.ready c.requires.within c.requires.life c.in-Ioctl.is a.leaves.own a.desk
+    order-after c.requires.ready c.requires.within c.requires.life c.in-Ioctl.is a.leaves.own a.desk
 
 pub returns-in-Join-clause-applied : goal.returns-in-Join-clause-applied
 returns-in-Join-clause-applied g c =
@@ -50,7 +46,7 @@ returns-in-Join-clause-applied g c =
 pub invariant_of-self-in-Join-clause-order : goal.invariant_of-self-in-Join-clause-order
 invariant_of-self-in-Join-clause-order g c =
     let a = c.join.ensures in
-    order-after g.B.Feeder.kind g.B.Feeder.kept c.args.self.now _ _ _ _ c.requires.ready c.requires.within c.requires.life c.in-Join.is a.leaves.own a.desk
+    order-after c.requires.ready c.requires.within c.requires.life c.in-Join.is a.leaves.own a.desk
 
 pub returns-in-StartGroup-clause-applied : goal.returns-in-StartGroup-clause-applied
 returns-in-StartGroup-clause-applied g c =
@@ -60,27 +56,28 @@ returns-in-StartGroup-clause-applied g c =
 pub invariant_of-self-in-StartGroup-clause-order : goal.invariant_of-self-in-StartGroup-clause-order
 invariant_of-self-in-StartGroup-clause-order g c =
     let a = c.start_group.ensures in
-    order-after g.B.Feeder.kind g.B.Feeder.kept c.args.self.now _ _ _ _ c.requires.ready c.requires.within c.requires.life c.in-StartGroup.is a.leaves.own a.desk
+    order-after c.requires.ready c.requires.within c.requires.life c.in-StartGroup.is a.leaves.own a.desk
 
--- ---- and others
+-- ---- calls that answer by whichever filters
 
 pub returns-in-Close-clause-applied : goal.returns-in-Close-clause-applied
 returns-in-Close-clause-applied g c =
     let old = c.args.self.now in
     let closed = c.close.ensures in
-    let at = c.here-here.ensures ∙ here-seen g.B.Feeder.kept old c.requires.ready.bus in
-    applied-answer c.in-Close.is tt c.requires.ready.bus c.tell-in-Close.ensures.kept closed.refused (closed.desk old.tables c.requires.ready.playing at)
-    (closed.reply old.tables) (closed.leaves old.tables)
+    let leaves = closed.leaves old.tables in
+    let here = c.here-here.ensures ∙ here-seen g.B.Feeder.kept old c.requires.ready.bus in
+    let desk = closed.desk old.tables c.requires.ready.playing here in
+    applied-answer c.in-Close.is tt c.requires.ready.bus c.tell-in-Close.ensures.kept closed.refused desk (closed.reply old.tables) leaves
 
 pub invariant_of-self-in-Close : goal.invariant_of-self-in-Close
 invariant_of-self-in-Close g c =
     let old = c.args.self.now in
     let closed = c.close.ensures in
-    let at = c.here-here.ensures ∙ here-seen g.B.Feeder.kept old c.requires.ready.bus in
     let leaves = closed.leaves old.tables in
+    let here = c.here-here.ensures ∙ here-seen g.B.Feeder.kept old c.requires.ready.bus in
+    let desk = closed.desk old.tables c.requires.ready.playing here in
     record {
-      order = order-after g.B.Feeder.kind g.B.Feeder.kept old _ _ _ _ c.requires.ready c.requires.within c.requires.life c.in-Close.is leaves.own
-          (closed.desk old.tables c.requires.ready.playing at);
+      order = order-after c.requires.ready c.requires.within c.requires.life c.in-Close.is leaves.own desk;
       captured_size = samples-sized old c.close.new.parent leaves.output.device_same;
       answered_size = old.answered_size;
     }
@@ -88,23 +85,20 @@ invariant_of-self-in-Close g c =
 pub returns-in-Write-clause-applied : goal.returns-in-Write-clause-applied
 returns-in-Write-clause-applied g c =
     let old = c.args.self.now in
-    let wrote = c.write.ensures in
-    let at = c.here-here.ensures ∙ here-seen g.B.Feeder.kept old c.requires.ready.bus in
-    let turn = subst (λ (n : ℕ). TakesTurnAt c.here-here.result (write_call c.in-Write.fd n) old.parent c.write.new.parent old.descriptors c.write.result)
-    (rw c.in-Write.is at c.requires.bytes) wrote.turn in
-    applied-answer c.in-Write.is tt c.requires.ready.bus c.tell-in-Write.ensures.kept (on_err_weaker c.write.result (λ same. (same, refl)) wrote.refused)
-    (turn.desk old.tables at) (turn.reply old.tables at) (wrote.leaves old.tables)
+    let leaves = c.write.ensures.leaves old.tables in
+    let here = c.here-here.ensures ∙ here-seen g.B.Feeder.kept old c.requires.ready.bus in
+    let turn = write-turn c.in-Write.fd _ (rw c.in-Write.is at c.requires.bytes) c.write.ensures.turn in
+    applied-answer c.in-Write.is tt c.requires.ready.bus c.tell-in-Write.ensures.kept
+    (on_err_weaker c.write.result (λ same. (same, refl)) c.write.ensures.refused) (turn.desk old.tables here) (turn.reply old.tables here) leaves
 
 pub invariant_of-self-in-Write : goal.invariant_of-self-in-Write
 invariant_of-self-in-Write g c =
     let old = c.args.self.now in
-    let wrote = c.write.ensures in
-    let at = c.here-here.ensures ∙ here-seen g.B.Feeder.kept old c.requires.ready.bus in
-    let turn = subst (λ (n : ℕ). TakesTurnAt c.here-here.result (write_call c.in-Write.fd n) old.parent c.write.new.parent old.descriptors c.write.result)
-    (rw c.in-Write.is at c.requires.bytes) wrote.turn in
-    let leaves = wrote.leaves old.tables in
+    let leaves = c.write.ensures.leaves old.tables in
+    let here = c.here-here.ensures ∙ here-seen g.B.Feeder.kept old c.requires.ready.bus in
+    let turn = write-turn c.in-Write.fd _ (rw c.in-Write.is at c.requires.bytes) c.write.ensures.turn in
     record {
-      order = order-after g.B.Feeder.kind g.B.Feeder.kept old _ _ _ _ c.requires.ready c.requires.within c.requires.life c.in-Write.is leaves.own (turn.desk old.tables at);
+      order = order-after c.requires.ready c.requires.within c.requires.life c.in-Write.is leaves.own (turn.desk old.tables here);
       captured_size = samples-sized old c.write.new.parent leaves.output.device_same;
       answered_size = old.answered_size;
     }
@@ -112,21 +106,18 @@ invariant_of-self-in-Write g c =
 pub returns-in-Poke-clause-applied : goal.returns-in-Poke-clause-applied
 returns-in-Poke-clause-applied g c =
     let old = c.args.self.now in
-    let poked = c.poke.ensures in
-    let turn = subst (λ (n : ℕ). TakesTurn (poke_call c.in-Poke.fd c.in-Poke.offset n) old.parent c.poke.new.parent old.descriptors c.poke.result)
-    (rw c.in-Poke.is at c.requires.bytes) poked.turn in
-    applied-answer c.in-Poke.is tt c.requires.ready.bus c.tell-in-Poke.ensures.kept (on_err_weaker c.poke.result (λ same. (same, refl)) poked.refused)
-    (turn.desk old.tables) (turn.reply old.tables) (poked.leaves old.tables)
+    let leaves = c.poke.ensures.leaves old.tables in
+    let turn = poke-turn c.in-Poke.fd c.in-Poke.offset _ (rw c.in-Poke.is at c.requires.bytes) c.poke.ensures.turn in
+    applied-answer c.in-Poke.is tt c.requires.ready.bus c.tell-in-Poke.ensures.kept
+    (on_err_weaker c.poke.result (λ same. (same, refl)) c.poke.ensures.refused) (turn.desk old.tables) (turn.reply old.tables) leaves
 
 pub invariant_of-self-in-Poke : goal.invariant_of-self-in-Poke
 invariant_of-self-in-Poke g c =
     let old = c.args.self.now in
-    let poked = c.poke.ensures in
-    let turn = subst (λ (n : ℕ). TakesTurn (poke_call c.in-Poke.fd c.in-Poke.offset n) old.parent c.poke.new.parent old.descriptors c.poke.result)
-    (rw c.in-Poke.is at c.requires.bytes) poked.turn in
-    let leaves = poked.leaves old.tables in
+    let leaves = c.poke.ensures.leaves old.tables in
+    let turn = poke-turn c.in-Poke.fd c.in-Poke.offset _ (rw c.in-Poke.is at c.requires.bytes) c.poke.ensures.turn in
     record {
-      order = order-after g.B.Feeder.kind g.B.Feeder.kept old _ _ _ _ c.requires.ready c.requires.within c.requires.life c.in-Poke.is leaves.own (turn.desk old.tables);
+      order = order-after c.requires.ready c.requires.within c.requires.life c.in-Poke.is leaves.own (turn.desk old.tables);
       captured_size = samples-sized old c.poke.new.parent leaves.output.device_same;
       answered_size = old.answered_size;
     }
@@ -135,7 +126,8 @@ pub returns-in-Read-clause-applied : goal.returns-in-Read-clause-applied
 returns-in-Read-clause-applied g c =
     let old = c.args.self.now in
     let read = c.answer_read.ensures in
-    applied-call c.in-Read.is tt c.requires.ready.bus (read.leaves old.tables) (record {
+    let leaves = read.leaves old.tables in
+    applied-call c.in-Read.is tt c.requires.ready.bus leaves (record {
       desk = read.turn.desk old.tables;
       result = read.turn.reply old.tables;
       refused = λ err. (read.refused err, refl);
@@ -148,21 +140,24 @@ invariant_of-self-in-Read g c =
     let read = c.answer_read.ensures in
     let leaves = read.leaves old.tables in
     record {
-      order = order-after g.B.Feeder.kind g.B.Feeder.kept old _ _ _ _ c.requires.ready c.requires.within c.requires.life c.in-Read.is leaves.own (read.turn.desk old.tables);
+      order = order-after c.requires.ready c.requires.within c.requires.life c.in-Read.is leaves.own (read.turn.desk old.tables);
       captured_size = samples-sized old c.answer_read.new.parent leaves.output.device_same;
       answered_size = old.answered_size;
     }
 
+-- ---- what is asked of the mixer device
+
 pub returns-in-Mixer-clause-applied : goal.returns-in-Mixer-clause-applied
 returns-in-Mixer-clause-applied g c =
+    let own = c.args.self.now.order.own in
     let asked = c.ask_mixer.ensures in
-    applied-mixer c.in-Mixer.is c.args.self.now.order.own c.requires.ready.bus c.tell-in-Mixer.ensures.kept asked.refused asked.parent asked.reply
+    applied-mixer c.in-Mixer.is own c.requires.ready.bus c.tell-in-Mixer.ensures.kept asked.refused asked.parent asked.reply
 
 pub invariant_of-self-in-Mixer-clause-order : goal.invariant_of-self-in-Mixer-clause-order
 invariant_of-self-in-Mixer-clause-order g c =
     let old = c.args.self.now in
     let is = c.ask_mixer.ensures.parent in
-    order-after g.B.Feeder.kind g.B.Feeder.kept old _ _ _ _ c.requires.ready c.requires.within c.requires.life c.in-Mixer.is (own-mixed is old.order.own)
+    order-after c.requires.ready c.requires.within c.requires.life c.in-Mixer.is (own-mixed is old.order.own)
     (ap (λ (p : ParentOf _). desk_with p old.descriptors) is)
 
 -- ---- an interrupt
@@ -174,11 +169,12 @@ returns-in-Intr-clause-applied g c =
     let new = c.interrupt.new.parent in
     let made = c.interrupt.ensures in
     let told = c.keep.ensures in
-    subst (λ (e : Event). Applied g.B.Feeder.kind g.B.Feeder.kept old.tables e c.args.bytes.now (samples_at_hand old e) old.parent old.descriptors new old.descriptors c.keep.new.self) (sym c.in-Intr.is)
-    (record {
+    let Moves : List ℤ → Type 0 = λ samples.
+    RecordersMove g.B.Feeder.kind g.B.Feeder.kept (device_of old) (take (samples_most old (Intr n)) samples) (Intr n) (record_channels old.parent) (record_channels new) in
+    applied-interrupt old c.in-Intr.is (record {
       rules = record {
-        desk = desk-interrupted g.B.Feeder.kind g.B.Feeder.kept old.tables n _ old.parent new old.descriptors made.slots made.recorders_slots made.maps_slots
-            made.books made.recorders made.maps made.mixer made.handed made.mixed;
+        desk = desk-interrupted g.B.Feeder.kind g.B.Feeder.kept old.tables n _ old.parent new old.descriptors
+            made.slots made.recorders_slots made.maps_slots made.books made.recorders made.maps made.mixer made.handed made.mixed;
         result = ap (λ (r : Reply). r.result) told;
         refused = λ err. accepted c.keep.new.self.result (Number n) (ap (λ (r : Reply). r.result) told) err;
         answered = λ bytes frames stand. ap (λ (r : Reply). r.bytes) told;
@@ -189,9 +185,7 @@ returns-in-Intr-clause-applied g c =
       recorders_slots = made.recorders_slots;
       maps_slots = made.maps_slots;
       channels = made.channels;
-      recorders =
-          subst (λ (samples : List ℤ). RecordersMove g.B.Feeder.kind g.B.Feeder.kept (device_of old) (take (samples_most old (Intr n)) samples) (Intr n) (record_channels old.parent) (record_channels new))
-          c.deref.ensures.value made.recorders;
+      recorders = subst Moves c.deref.ensures.value made.recorders;
       maps = made.maps;
       bus = made.bus;
       turns = made.turns;
@@ -201,80 +195,39 @@ pub invariant_of-self-in-Intr-clause-order : goal.invariant_of-self-in-Intr-clau
 invariant_of-self-in-Intr-clause-order g c =
     let old = c.args.self.now in
     let made = c.interrupt.ensures in
-    order-after g.B.Feeder.kind g.B.Feeder.kept old _ _ _ _ c.requires.ready c.requires.within c.requires.life c.in-Intr.is
-    (record { playing = made.own; recording = made.recorders_own; mapped = made.maps_own })
-    (desk-interrupted g.B.Feeder.kind g.B.Feeder.kept old.tables c.in-Intr.frames _ old.parent c.interrupt.new.parent old.descriptors made.slots made.recorders_slots made.maps_slots
-    made.books made.recorders made.maps made.mixer made.handed made.mixed)
+    let own : AreOwn c.interrupt.new.parent = record { playing = made.own; recording = made.recorders_own; mapped = made.maps_own } in
+    order-after c.requires.ready c.requires.within c.requires.life c.in-Intr.is own
+    (desk-interrupted g.B.Feeder.kind g.B.Feeder.kept old.tables c.in-Intr.frames _ old.parent c.interrupt.new.parent old.descriptors
+    made.slots made.recorders_slots made.maps_slots made.books made.recorders made.maps made.mixer made.handed made.mixed)
 
 -- ---- what calls rely on
 
--- what an interrupt relies on holds of every channel, since the device has been given few frames
+-- few frames were mixed and given to the device, so an interrupt finds room in every count
 pub interrupt-requires-clause-due : goal.interrupt-requires-clause-due
-interrupt-requires-clause-due g c =
-    let old = c.args.self.now in
-    let fits = rw c.in-Intr.is at c.requires.within in
-    let few = mixes-few old.tables c.in-Intr.frames old.parent c.requires.ready.bus.planned.limits fits.1 in
-    let mixed = few-mixed g.B.Feeder.kept old c.requires.ready.bus in
-    let handed = old.order.life in
-    record {
-      bus = c.requires.ready.bus;
-      playing = λ slot other there.
-          let played = (play-pace old slot other there).played in
-          record {
-            own = old.order.own.playing slot other there;
-            ready = c.requires.ready.playing slot other there;
-            given = omega (arith, played, few, mixed);
-            counted = (let counted = bytes-counted g.B.Feeder.kind g.B.Feeder.kept old c.requires.ready slot other there in omega (arith, counted));
-          };
-      recording = λ slot other there.
-          let pace = record-pace old slot other there in
-          record {
-            own = old.order.own.recording slot other there;
-            ready = c.requires.ready.recording slot other there;
-            captured = capture-fits old.tables c.in-Intr.frames (get_or (record_channels old.parent) slot other)
-                (subst (λ (d : Device). IsDevice (seen old.tables d)) (sym (old.order.own.recording slot other there)) c.requires.ready.bus.planned.limits)
-                (let captured = pace.captured in omega (arith, captured, old.parent.within, fits.1, handed));
-            kept = (let kept = pace.kept in omega (arith, kept, handed));
-          };
-      mapped = λ slot other there.
-          let given = (map-pace old slot other there).given in
-          record {
-            own = old.order.own.mapped slot other there;
-            ready = c.requires.ready.mapped slot other there;
-            counted = counts-fit old.tables (mixed_in old.tables c.in-Intr.frames old.parent) (get_or (map_channels old.parent) slot other)
-                (subst (λ (d : Device). IsDevice (seen old.tables d)) (sym (old.order.own.mapped slot other there)) c.requires.ready.bus.planned.limits)
-                (omega (arith, given, few, mixed-few g.B.Feeder.kept (device_of old) old.parent c.requires.ready.bus handed));
-          };
-    }
-
--- the bytes that a write brings can be counted
-pub write-requires-clause-count : goal.write-requires-clause-count
-write-requires-clause-count g c = λ slot other there.
-    let old = c.args.self.now in
-    let counted = bytes-counted g.B.Feeder.kind g.B.Feeder.kept old c.requires.ready slot other there in
-    omega (arith, counted)
-
--- nor does a close pass the counts
-pub close-requires-clause-count : goal.close-requires-clause-count
-close-requires-clause-count g c = λ slot other there.
-    let counted = bytes-counted g.B.Feeder.kind g.B.Feeder.kept c.args.self.now c.requires.ready slot other there in
-    omega (arith, counted)
-
--- every channel is ready for a call
-pub open-requires-clause-served : goal.open-requires-clause-served
-open-requires-clause-served g c = served g.B.Feeder.kind g.B.Feeder.kept c.args.self.now c.requires.ready
-
-pub ioctl-requires-clause-able : goal.ioctl-requires-clause-able
-ioctl-requires-clause-able g c = can-be-asked g.B.Feeder.kind g.B.Feeder.kept c.args.self.now c.here-here.result c.requires.ready c.here-here.ensures
-
-pub join-requires-clause-able : goal.join-requires-clause-able
-join-requires-clause-able g c = can-be-asked g.B.Feeder.kind g.B.Feeder.kept c.args.self.now c.here-here.result c.requires.ready c.here-here.ensures
-
-pub start_group-requires-clause-able : goal.start_group-requires-clause-able
-start_group-requires-clause-able g c = can-be-asked g.B.Feeder.kind g.B.Feeder.kept c.args.self.now c.here-here.result c.requires.ready c.here-here.ensures
-
-pub close-requires-clause-closable : goal.close-requires-clause-closable
-close-requires-clause-closable g c = closable g.B.Feeder.kind g.B.Feeder.kept c.args.self.now c.requires.ready
+interrupt-requires-clause-due g c = due c.requires.ready (rw c.in-Intr.is at c.requires.within)
 
 pub interrupt-requires-clause-counts : goal.interrupt-requires-clause-counts
 interrupt-requires-clause-counts g c = inl (let few = few-mixed g.B.Feeder.kept c.args.self.now c.requires.ready.bus in omega (arith, few))
+
+-- the bytes that a write brings can be counted, and a close passes no count
+pub write-requires-clause-count : goal.write-requires-clause-count
+write-requires-clause-count g c = λ slot other there. (let counted = bytes-counted c.requires.ready slot other there in omega (arith, counted))
+
+pub close-requires-clause-count : goal.close-requires-clause-count
+close-requires-clause-count g c = λ slot other there. (let counted = bytes-counted c.requires.ready slot other there in omega (arith, counted))
+
+-- every channel is ready for a call
+pub open-requires-clause-served : goal.open-requires-clause-served
+open-requires-clause-served g c = served c.requires.ready
+
+pub ioctl-requires-clause-able : goal.ioctl-requires-clause-able
+ioctl-requires-clause-able g c = can-be-asked c.requires.ready c.here-here.ensures
+
+pub join-requires-clause-able : goal.join-requires-clause-able
+join-requires-clause-able g c = can-be-asked c.requires.ready c.here-here.ensures
+
+pub start_group-requires-clause-able : goal.start_group-requires-clause-able
+start_group-requires-clause-able g c = can-be-asked c.requires.ready c.here-here.ensures
+
+pub close-requires-clause-closable : goal.close-requires-clause-closable
+close-requires-clause-closable g c = closable c.requires.ready

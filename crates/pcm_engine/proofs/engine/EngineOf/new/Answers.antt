@@ -5,7 +5,7 @@ use Rattle.pcm_desk.proofs.Apart.{apart-shut}
 use Rattle.pcm_desk.proofs.Members.{waits-none}
 use Rattle.pcm_sound.proofs.Stories.{get_or-same}
 use Rattle.pcm_desk.specs.declared.device.Device.{Device}
-use Rattle.pcm_desk.specs.Desk.{play_unopened}
+use Rattle.pcm_desk.specs.Desk.{play_unopened, record_unopened}
 use Rattle.pcm_desk.specs.Device.{IsInLimits, here_at, mixed_for, seen}
 use Rattle.pcm_format.specs.Layouts.{channels_of}
 use Rattle.pcm_sound.specs.Story.{story_at_start}
@@ -16,7 +16,7 @@ use Rattle.pcm_engine.specs.Desks.{desk_with}
 use Rattle.pcm_engine.specs.Life.{MapKeepsPace, PlayKeepsPace, RecordKeepsPace}
 use Rattle.pcm_engine.specs.Stands.{RecordersStand}
 use Rattle.pcm_engine.proofs.InOrder.{books-start, ready-all}
-use Rattle.pcm_engine.proofs.Starting.{map-ready-unopened, parent-starts, ready-unopened, record-ready-unopened, record_books_of-unopened, recorders-start}
+use Rattle.pcm_engine.proofs.Starting.{books-unopened, map-ready-unopened, parent-starts, ready-unopened, record-ready-unopened, recorders-start}
 use Rattle.pcm_engine.proofs.engine.EngineOf.new.Goals as goal
 use Rattle.pcm_bus.specs.Handovers.{HasMade}
 use Rattle.pcm_vchan.specs.Parents.{HasBus, map_channels, play_channels, record_channels}
@@ -71,7 +71,7 @@ pub returns-clause-stands : goal.returns-clause-stands
 returns-clause-stands g c = λ pool.
     let e = c.in_ok-parent.ensures in
     let parent = c.in_ok-parent.parent in
-    let books = record_books_of-unopened g.B.Feeder.kind g.B.Feeder.kept c.args.tables c.args.device (record_channels parent) e.recorders e.recording in
+    let books = books-unopened (λ channel. channel.book) (record_channels parent) c.args.device.record_slots (record_unopened (seen c.args.tables c.args.device)) e.recorders (λ slot other there. (e.recording slot other there).book) in
     let started = recorders-start g.B.Feeder.kind g.B.Feeder.kept c.args.tables c.args.device pool (record_channels parent) c.requires.limits.device_is e.recording in
     record {
       playing = parent-starts g.B.Feeder.kind g.B.Feeder.kept c.args.tables c.args.device parent c.in_ok-descriptors.descriptors c.requires.limits.device_is (record {

@@ -10,7 +10,7 @@ returns-clause-counted g c =
     let there = c.requires.there in
     let slots = engine.parent.slots in
     subst (λ (channel : PlayChannelOf _). channel.book.done + channel.book.written < 2 ^ 63) (sym c.index.ensures)
-    (bytes-counted g.B.Feeder.kind g.B.Feeder.kept engine c.requires.ready c.args.slot c.index.result.now (omega (arith, there, slots, items-count engine.parent.channels)))
+    (bytes-counted c.requires.ready c.args.slot c.index.result.now (omega (arith, there, slots, items-count engine.parent.channels)))
 
 pub returns-clause-given : goal.returns-clause-given
 returns-clause-given g c =
