@@ -4,11 +4,10 @@ use Rattle.pcm_oss.specs.declared.event.Event.TheVariants.{Intr}
 use Rattle.pcm_oss.specs.declared.reply.Answer.TheVariants.{Number}
 use Rattle.pcm_oss.specs.Replies.{Reply}
 use Rattle.pcm_vchan.specs.declared.parent.ParentOf.{ParentOf}
-use Rattle.pcm_vchan.specs.Parents.{record_channels}
+use Rattle.pcm_vchan.specs.Parents.{EachCaptures}
 use Rattle.pcm_engine.specs.Desks.{desk_with}
-use Rattle.pcm_engine.specs.Engines.{device_of, samples_most}
+use Rattle.pcm_engine.specs.Engines.{samples_most}
 use Rattle.pcm_engine.specs.Invariants.{AreOwn}
-use Rattle.pcm_engine.specs.Steps.{RecordersMove}
 use Rattle.pcm_engine.proofs.Applying.{accepted, applied-answer, applied-call, applied-interrupt, applied-mixer, order-after, own-mixed}
 use Rattle.pcm_engine.proofs.Applying.{samples-sized}
 use Rattle.pcm_engine.proofs.Desks.{desk-interrupted}
@@ -88,8 +87,9 @@ returns-in-Write-clause-applied g c =
     let leaves = c.write.ensures.leaves old.tables in
     let here = c.here-here.ensures ∙ here-seen g.B.Feeder.kept old c.requires.ready.bus in
     let turn = write-turn c.in-Write.fd _ (rw c.in-Write.is at c.requires.bytes) c.write.ensures.turn in
+    let refused = on_err_weaker c.write.result (λ same. (same, refl)) c.write.ensures.refused in
     applied-answer c.in-Write.is tt c.requires.ready.bus c.tell-in-Write.ensures.kept
-    (on_err_weaker c.write.result (λ same. (same, refl)) c.write.ensures.refused) (turn.desk old.tables here) (turn.reply old.tables here) leaves
+    refused (turn.desk old.tables here) (turn.reply old.tables here) leaves
 
 pub invariant_of-self-in-Write : goal.invariant_of-self-in-Write
 invariant_of-self-in-Write g c =
@@ -108,8 +108,9 @@ returns-in-Poke-clause-applied g c =
     let old = c.args.self.now in
     let leaves = c.poke.ensures.leaves old.tables in
     let turn = poke-turn c.in-Poke.fd c.in-Poke.offset _ (rw c.in-Poke.is at c.requires.bytes) c.poke.ensures.turn in
+    let refused = on_err_weaker c.poke.result (λ same. (same, refl)) c.poke.ensures.refused in
     applied-answer c.in-Poke.is tt c.requires.ready.bus c.tell-in-Poke.ensures.kept
-    (on_err_weaker c.poke.result (λ same. (same, refl)) c.poke.ensures.refused) (turn.desk old.tables) (turn.reply old.tables) leaves
+    refused (turn.desk old.tables) (turn.reply old.tables) leaves
 
 pub invariant_of-self-in-Poke : goal.invariant_of-self-in-Poke
 invariant_of-self-in-Poke g c =
@@ -169,8 +170,8 @@ returns-in-Intr-clause-applied g c =
     let new = c.interrupt.new.parent in
     let made = c.interrupt.ensures in
     let told = c.keep.ensures in
-    let Moves : List ℤ → Type 0 = λ samples.
-    RecordersMove g.B.Feeder.kind g.B.Feeder.kept (device_of old) (take (samples_most old (Intr n)) samples) (Intr n) (record_channels old.parent) (record_channels new) in
+    let Hears : List ℤ → Type 0 = λ samples.
+    EachCaptures g.B.Feeder.kind g.B.Feeder.kept old.tables n (take (samples_most old (Intr n)) samples) old.parent new in
     applied-interrupt old c.in-Intr.is (record {
       rules = record {
         desk = desk-interrupted g.B.Feeder.kind g.B.Feeder.kept old.tables n _ old.parent new old.descriptors
@@ -185,7 +186,7 @@ returns-in-Intr-clause-applied g c =
       recorders_slots = made.recorders_slots;
       maps_slots = made.maps_slots;
       channels = made.channels;
-      recorders = subst Moves c.deref.ensures.value made.recorders;
+      recorders = subst Hears c.deref.ensures.value made.recorders;
       maps = made.maps;
       bus = made.bus;
       turns = made.turns;
@@ -211,10 +212,14 @@ interrupt-requires-clause-counts g c = inl (let few = few-mixed g.B.Feeder.kept 
 
 -- the bytes that a write brings can be counted, and a close passes no count
 pub write-requires-clause-count : goal.write-requires-clause-count
-write-requires-clause-count g c = λ slot other there. (let counted = bytes-counted c.requires.ready slot other there in omega (arith, counted))
+write-requires-clause-count g c = λ slot other there.
+    let counted = bytes-counted c.requires.ready slot other there in
+    omega (arith, counted)
 
 pub close-requires-clause-count : goal.close-requires-clause-count
-close-requires-clause-count g c = λ slot other there. (let counted = bytes-counted c.requires.ready slot other there in omega (arith, counted))
+close-requires-clause-count g c = λ slot other there.
+    let counted = bytes-counted c.requires.ready slot other there in
+    omega (arith, counted)
 
 -- every channel is ready for a call
 pub open-requires-clause-served : goal.open-requires-clause-served
