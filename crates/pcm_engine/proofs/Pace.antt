@@ -304,13 +304,18 @@ ChannelKeepsPace desk (Playing book) = PlayKeepsPace desk.mixed book
 ChannelKeepsPace desk (Recording book) = RecordKeepsPace desk.handed book
 ChannelKeepsPace desk (Mapped book) = MapKeepsPace desk.mixed book
 
-channel_pace : (device : DeviceSeen) (desk : Desk) (held : Held) → KeepsPace desk → ChannelKeepsPace desk (channel_at device desk held)
-channel_pace device desk held p = at held.way
+-- whatever is done to a channel, way by way
+by_ways : (device : DeviceSeen) (desk : Desk) (held : Held) (how : Channel → Channel) → ChannelKeepsPace desk (how (Playing (play_at device desk held.slot))) → ChannelKeepsPace desk (how (Recording (record_at device desk held.slot)))
+    → ChannelKeepsPace desk (how (Mapped (map_at device desk held.slot))) → ChannelKeepsPace desk (how (channel_at device desk held))
+by_ways device desk held how playing recording mapped = at held.way
   where
-    at : (way : Way) → ChannelKeepsPace desk (channel_at device desk (channel_named way held.slot))
-    at Play = play_slot device desk held.slot p
-    at Record = record_slot device desk held.slot p
-    at Map = map_slot device desk held.slot p
+    at : (way : Way) → ChannelKeepsPace desk (how (channel_at device desk (channel_named way held.slot)))
+    at Play = playing
+    at Record = recording
+    at Map = mapped
+
+channel_pace : (device : DeviceSeen) (desk : Desk) (held : Held) → KeepsPace desk → ChannelKeepsPace desk (channel_at device desk held)
+channel_pace device desk held p = by_ways device desk held (λ channel. channel) (play_slot device desk held.slot p) (record_slot device desk held.slot p) (map_slot device desk held.slot p)
 
 begun_pace : (desk : Desk) (way : Way) (settings : Settings) → ChannelKeepsPace desk (channel_begun way settings)
 begun_pace desk Play settings = record { played = omega arith }
@@ -333,13 +338,12 @@ pub record ReliesOn (device : DeviceSeen) (desk : Desk) : Type 0 where
 -- ---- the turn of a channel
 
 asked_pace : (device : DeviceSeen) (desk : Desk) (held : Held) (request : Request) → ReliesOn device desk → KeepsPace desk → ChannelKeepsPace desk (own_ioctl device (desk_here device desk) request (channel_at device desk held)).book
-asked_pace device desk held request r p = at held.way
-  where
-    at : (way : Way) → ChannelKeepsPace desk (own_ioctl device (desk_here device desk) request (channel_at device desk (channel_named way held.slot))).book
-    at Play = let old : PlayBook = play_at device desk held.slot in
-        ask_pace (play_rate_at device old) (mix_settings device).rate (desk_here device desk) request desk.mixed old (near-rate device old.opening.settings r.device_is (r.rates held.slot)) (play_slot device desk held.slot p)
-    at Record = let old : RecordBook = record_at device desk held.slot in record_ask_pace (record_rate_at device old) request desk.handed old (r.records_safe held.slot) (record_slot device desk held.slot p)
-    at Map = let old : MapBook = map_at device desk held.slot in map_ask_pace (map_rate_at device old) request desk.mixed old (r.maps_safe held.slot) (map_slot device desk held.slot p)
+asked_pace device desk held request r p =
+    let old : PlayBook = play_at device desk held.slot in
+    by_ways device desk held (λ channel. (own_ioctl device (desk_here device desk) request channel).book)
+    (ask_pace (play_rate_at device old) (mix_settings device).rate (desk_here device desk) request desk.mixed old (near-rate device old.opening.settings r.device_is (r.rates held.slot)) (play_slot device desk held.slot p))
+    (record_ask_pace (record_rate_at device (record_at device desk held.slot)) request desk.handed (record_at device desk held.slot) (r.records_safe held.slot) (record_slot device desk held.slot p))
+    (map_ask_pace (map_rate_at device (map_at device desk held.slot)) request desk.mixed (map_at device desk held.slot) (r.maps_safe held.slot) (map_slot device desk held.slot p))
 
 requested_pace : (device : DeviceSeen) (desk : Desk) (held : Held) (request : Request) (refusal : Option Errno) → ReliesOn device desk → KeepsPace desk
     → ChannelKeepsPace desk (own_request device (desk_here device desk) request refusal (channel_at device desk held)).book
@@ -351,37 +355,26 @@ joined_pace device desk held (Ok group) r p = asked_pace device desk held (SetTr
 joined_pace device desk held (Err errno) r p = channel_pace device desk held p
 
 wrote_pace : (device : DeviceSeen) (desk : Desk) (held : Held) (count : ℕ) → KeepsPace desk → ChannelKeepsPace desk (own_write (desk_here device desk) count (channel_at device desk held)).book
-wrote_pace device desk held count p = at held.way
-  where
-    at : (way : Way) → ChannelKeepsPace desk (own_write (desk_here device desk) count (channel_at device desk (channel_named way held.slot))).book
-    at Play = write_pace (desk_here device desk) desk.mixed count (play_at device desk held.slot) (play_slot device desk held.slot p)
-    at Record = record_slot device desk held.slot p
-    at Map = map_slot device desk held.slot p
+wrote_pace device desk held count p =
+    by_ways device desk held (λ channel. (own_write (desk_here device desk) count channel).book)
+    (write_pace (desk_here device desk) desk.mixed count (play_at device desk held.slot) (play_slot device desk held.slot p)) (record_slot device desk held.slot p) (map_slot device desk held.slot p)
 
 poked_pace : (device : DeviceSeen) (desk : Desk) (held : Held) (offset count : ℕ) → KeepsPace desk → ChannelKeepsPace desk (own_poke offset count (channel_at device desk held)).book
-poked_pace device desk held offset count p = at held.way
-  where
-    at : (way : Way) → ChannelKeepsPace desk (own_poke offset count (channel_at device desk (channel_named way held.slot))).book
-    at Play = play_slot device desk held.slot p
-    at Record = record_slot device desk held.slot p
-    at Map = poke_pace offset count desk.mixed (map_at device desk held.slot) (map_slot device desk held.slot p)
+poked_pace device desk held offset count p =
+    by_ways device desk held (λ channel. (own_poke offset count channel).book)
+    (play_slot device desk held.slot p) (record_slot device desk held.slot p) (poke_pace offset count desk.mixed (map_at device desk held.slot) (map_slot device desk held.slot p))
 
 got_pace : (device : DeviceSeen) (desk : Desk) (held : Held) (count : ℕ) → KeepsPace desk → ChannelKeepsPace desk (own_read count (channel_at device desk held)).book
-got_pace device desk held count p = at held.way
-  where
-    at : (way : Way) → ChannelKeepsPace desk (own_read count (channel_at device desk (channel_named way held.slot))).book
-    at Play = play_slot device desk held.slot p
-    at Record = read_pace count desk.handed (record_at device desk held.slot) (record_slot device desk held.slot p)
-    at Map = map_slot device desk held.slot p
+got_pace device desk held count p =
+    by_ways device desk held (λ channel. (own_read count channel).book)
+    (play_slot device desk held.slot p) (read_pace count desk.handed (record_at device desk held.slot) (record_slot device desk held.slot p)) (map_slot device desk held.slot p)
 
 closed_pace : (device : DeviceSeen) (desk : Desk) (held : Held) → ReliesOn device desk → KeepsPace desk → ChannelKeepsPace desk (own_close device (desk_here device desk) (channel_at device desk held))
-closed_pace device desk held r p = at held.way
-  where
-    at : (way : Way) → ChannelKeepsPace desk (own_close device (desk_here device desk) (channel_at device desk (channel_named way held.slot)))
-    at Play = let old : PlayBook = play_at device desk held.slot in
-        close_pace (play_rate_at device old) (desk_here device desk) desk.mixed old (near-rate device old.opening.settings r.device_is (r.rates held.slot)) (play_slot device desk held.slot p)
-    at Record = record { captured = omega arith; kept = omega arith }
-    at Map = record { given = omega arith }
+closed_pace device desk held r p =
+    let old : PlayBook = play_at device desk held.slot in
+    by_ways device desk held (own_close device (desk_here device desk))
+    (close_pace (play_rate_at device old) (desk_here device desk) desk.mixed old (near-rate device old.opening.settings r.device_is (r.rates held.slot)) (play_slot device desk held.slot p))
+    (record { captured = omega arith; kept = omega arith }) (record { given = omega arith })
 
 -- all members of a group start
 change_pace : {X : Type 0} (P : X → Type 0) (group : ℕ) (how : X → X) (slots : List ℕ) (books : List X) → 0 < group → ((slot : ℕ) (other : X) → slot < length books → P (how (get_or books slot other))) → All P books

@@ -111,24 +111,21 @@ write-refused device desk fd source at count found errno = refused_by device des
   where
     other : (way : Way) (slot : ℕ) → is_way Play way ≡ false → channel_turn device desk (Write fd source at count) (Some (channel_of way slot)) ≡ refusing desk Inval
     other Play slot is = cc
-    other Record slot is = refuses device desk (channel_of Record slot)
-    other Map slot is = refuses device desk (channel_of Map slot)
+    other way slot is = refuses device desk (channel_of way slot)
 
 pub poke-refused : (device : DeviceSeen) (desk : Desk) (fd offset at count : ℕ) (found : Option Held) (errno : Errno) → slot_of Map found ≡ Err errno → channel_turn device desk (Poke fd offset at count) found ≡ refusing desk errno
 poke-refused device desk fd offset at count found errno = refused_by device desk (Poke fd offset at count) Map found errno (λ held. other held.way held.slot)
   where
     other : (way : Way) (slot : ℕ) → is_way Map way ≡ false → channel_turn device desk (Poke fd offset at count) (Some (channel_of way slot)) ≡ refusing desk Inval
-    other Play slot is = refuses device desk (channel_of Play slot)
-    other Record slot is = refuses device desk (channel_of Record slot)
     other Map slot is = cc
+    other way slot is = refuses device desk (channel_of way slot)
 
 pub read-refused : (device : DeviceSeen) (desk : Desk) (fd count : ℕ) (found : Option Held) (errno : Errno) → slot_of Record found ≡ Err errno → channel_turn device desk (Read fd count) found ≡ refusing desk errno
 read-refused device desk fd count found errno = refused_by device desk (Read fd count) Record found errno (λ held. other held.way held.slot)
   where
     other : (way : Way) (slot : ℕ) → is_way Record way ≡ false → channel_turn device desk (Read fd count) (Some (channel_of way slot)) ≡ refusing desk Inval
-    other Play slot is = refuses device desk (channel_of Play slot)
     other Record slot is = cc
-    other Map slot is = refuses device desk (channel_of Map slot)
+    other way slot is = refuses device desk (channel_of way slot)
 
 -- of the bytes of a write and a poke only their number counts
 pub write-turn : {B : Type 0} {here : Here} {old new : ParentOf B} {descriptors : Descriptors} {result : Result Answer Errno} (fd : ℕ) (bytes : List ℕ) {count : ℕ} → length bytes ≡ count → TakesTurnAt here (write_call fd (length bytes)) old new descriptors result
@@ -174,7 +171,7 @@ pub map-found : {B : Type 0} (parent : ParentOf B) (descriptors : Descriptors) (
 map-found parent descriptors fd slot h e = map-there parent descriptors fd (channel_of Map slot) h (slot-is Map (held_by (desk_with parent descriptors) fd) slot e) refl
 
 -- and so is the one that it holds
-pub held-there : {B : Type 0} (parent : ParentOf B) (descriptors : Descriptors) (fd : ℕ) (held : Held) → HoldApart (desk_with parent descriptors) → held_by (desk_with parent descriptors) fd ≡ Some held
+held-there : {B : Type 0} (parent : ParentOf B) (descriptors : Descriptors) (fd : ℕ) (held : Held) → HoldApart (desk_with parent descriptors) → held_by (desk_with parent descriptors) fd ≡ Some held
     → (held.way ≡ Play → held.slot < fixed_len parent.channels) × (held.way ≡ Record → held.slot < fixed_len parent.recorders) × (held.way ≡ Map → held.slot < fixed_len parent.maps)
 held-there parent descriptors fd held h e = (
   λ is. (let there = play-there parent descriptors fd held h e is in omega (arith, there, items-count parent.channels)),
@@ -190,6 +187,14 @@ held-few parent descriptors fd held h e = at held.way refl
     at Play is = let below = (held-there parent descriptors fd held h e).0 is in omega (arith, below, parent.slots, parent.slots_within)
     at Record is = let below = (held-there parent descriptors fd held h e).1 is in omega (arith, below, parent.recorders_count, parent.recorders_within)
     at Map is = let below = (held-there parent descriptors fd held h e).2 is in omega (arith, below, parent.maps_count, parent.slots_within)
+
+-- so are they of a descriptor that is found open
+pub open-there : {B : Type 0} (parent : ParentOf B) (descriptors : Descriptors) (fd : ℕ) (held : Held) → HoldApart (desk_with parent descriptors) → holding (held_by (desk_with parent descriptors) fd) ≡ Ok held
+    → (held.way ≡ Play → held.slot < fixed_len parent.channels) × (held.way ≡ Record → held.slot < fixed_len parent.recorders) × (held.way ≡ Map → held.slot < fixed_len parent.maps)
+open-there parent descriptors fd held h e = held-there parent descriptors fd held h (holding-is (held_by (desk_with parent descriptors) fd) held e)
+
+pub open-few : {B : Type 0} (parent : ParentOf B) (descriptors : Descriptors) (fd : ℕ) (held : Held) → HoldApart (desk_with parent descriptors) → holding (held_by (desk_with parent descriptors) fd) ≡ Ok held → held.slot < SLOTS
+open-few parent descriptors fd held h e = held-few parent descriptors fd held h (holding-is (held_by (desk_with parent descriptors) fd) held e)
 
 -- ---- channels that play
 

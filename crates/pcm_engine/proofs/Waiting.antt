@@ -1,8 +1,8 @@
 -- What a read gets is the front of what waits in the ring of its own channel.
-use Rattle.std.proofs.Common.{◌≡◌, ℕ, zero, suc, ◌<◌, ◌≤◌, List, [], ◌∷◌, length, get_or, map, min, take, drop, Option, Some, None, ◌⊎◌, inl, inr, refl, sym, ap, ◌∙◌, subst, arith}
+use Rattle.std.proofs.Common.{◌≡◌, ℕ, ◌<◌, ◌≤◌, List, [], length, get_or, map, min, take, drop, Option, Some, None, ◌⊎◌, inl, inr, refl, sym, ap, ◌∙◌, subst, arith}
 use Rattle.std.specs.Prelude.{All}
 use Rattle.std.proofs.lemmas.Bool.{cases_lt}
-use Rattle.std.proofs.lemmas.List.{get_or-map, length-map, take_all}
+use Rattle.std.proofs.lemmas.List.{get_or-map, get_or_default, length-map, take_all}
 use Rattle.pcm_format.specs.Frames.{Frame}
 use Rattle.pcm_oss.specs.declared.event.Way.{Way}
 use Rattle.pcm_oss.specs.declared.event.Way.TheVariants.{Play, Record, Map}
@@ -37,18 +37,12 @@ abbrev frames_by : {B : Type 0} (kind : B → Kind) (kept : B → Kept) (filters
 frames_by kind kept filters recorders ready slot (inl there) = (ready slot (some_channel recorders slot there) there).stands.frames
 frames_by kind kept filters recorders ready slot (inr past) = []
 
--- an element of a list is the same whatever stands for one past its end
-get_or-there : {X : Type 0} (list : List X) (k : ℕ) (one other : X) → k < length list → get_or list k one ≡ get_or list k other
-get_or-there [] k one other there = absurd (omega arith)
-get_or-there (x ∷ list) zero one other there = refl
-get_or-there (x ∷ list) (suc k) one other there = get_or-there list k one other (omega arith)
-
 stands_by : {B : Type 0} (kind : B → Kind) (kept : B → Kept) (filters : Filters) (recorders : List (RecordChannelOf B)) (ready : AreReady kind kept filters recorders) (slot : ℕ) (other : RecordChannelOf B) → slot < length recorders
     → (is : (slot < length recorders) ⊎ (length recorders ≤ slot))
     → RecordStands kept filters (get_or recorders slot other) (get_or recorders slot other).book (bytes_by kind kept filters recorders ready slot is) (frames_by kind kept filters recorders ready slot is)
 stands_by {B} kind kept filters recorders ready slot other within (inl there) =
     let some : RecordChannelOf B = some_channel recorders slot there in
-    subst (λ (c : RecordChannelOf B). RecordStands kept filters c c.book (ready slot some there).stands.bytes (ready slot some there).stands.frames) (get_or-there recorders slot some other there) (ready slot some there).stands.stands
+    subst (λ (c : RecordChannelOf B). RecordStands kept filters c c.book (ready slot some there).stands.bytes (ready slot some there).stands.frames) (get_or_default recorders slot some other there) (ready slot some there).stands.stands
 stands_by kind kept filters recorders ready slot other within (inr past) = absurd (omega arith)
 
 -- ---- what a read gets

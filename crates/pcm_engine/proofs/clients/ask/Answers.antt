@@ -27,7 +27,7 @@ use Rattle.pcm_engine.specs.Desks.{channel_asked, desk_with, ioctl_call}
 use Rattle.pcm_engine.proofs.Mapped.{keeps-asked}
 use Rattle.pcm_engine.proofs.Answering.{answers-refusal, leaves-mapped, leaves-played, leaves-recorded, own-served}
 use Rattle.pcm_engine.proofs.Grouping.{handed-on}
-use Rattle.pcm_engine.proofs.Turning.{ask-not, held-there, found-way, desk-mapped, desk-played, desk-recorded, map-there, map-unfree, own-lent, play-there, record-there, reply-mapped, reply-played, reply-recorded, holding-is}
+use Rattle.pcm_engine.proofs.Turning.{ask-not, open-there, found-way, desk-mapped, desk-played, desk-recorded, map-there, map-unfree, own-lent, play-there, record-there, reply-mapped, reply-played, reply-recorded, holding-is}
 use Rattle.pcm_engine.proofs.clients.ask.Goals as goal
 
 pub returns-in_err-held : goal.returns-in_err-held
@@ -39,22 +39,13 @@ returns-in_err-held g c =
     (handed-on c.from_residual.result errno c.from_residual.ensures.0 c.from_residual.ensures.1)
 
 pub play-requires : goal.play-requires
-play-requires g c =
-    let parent = c.args.parent.now in
-    let e = holding-is (held_by (desk_with parent c.args.descriptors.now) c.args.fd) c.in_ok-held.held (sym c.holding.ensures ∙ c.in_ok-held.was) in
-    (held-there parent c.args.descriptors.now c.args.fd c.in_ok-held.held c.requires.apart e).0 c.in-Play.is
+play-requires g c = (open-there c.args.parent.now c.args.descriptors.now c.args.fd c.in_ok-held.held c.requires.apart (sym c.holding.ensures ∙ c.in_ok-held.was)).0 c.in-Play.is
 
 pub recorder-requires : goal.recorder-requires
-recorder-requires g c =
-    let parent = c.args.parent.now in
-    let e = holding-is (held_by (desk_with parent c.args.descriptors.now) c.args.fd) c.in_ok-held.held (sym c.holding.ensures ∙ c.in_ok-held.was) in
-    (held-there parent c.args.descriptors.now c.args.fd c.in_ok-held.held c.requires.apart e).1 c.in-Record.is
+recorder-requires g c = (open-there c.args.parent.now c.args.descriptors.now c.args.fd c.in_ok-held.held c.requires.apart (sym c.holding.ensures ∙ c.in_ok-held.was)).1 c.in-Record.is
 
 pub mapped-requires : goal.mapped-requires
-mapped-requires g c =
-    let parent = c.args.parent.now in
-    let e = holding-is (held_by (desk_with parent c.args.descriptors.now) c.args.fd) c.in_ok-held.held (sym c.holding.ensures ∙ c.in_ok-held.was) in
-    (held-there parent c.args.descriptors.now c.args.fd c.in_ok-held.held c.requires.apart e).2 c.in-Map.is
+mapped-requires g c = (open-there c.args.parent.now c.args.descriptors.now c.args.fd c.in_ok-held.held c.requires.apart (sym c.holding.ensures ∙ c.in_ok-held.was)).2 c.in-Map.is
 
 pub ioctl-requires : goal.ioctl-requires
 ioctl-requires g c =

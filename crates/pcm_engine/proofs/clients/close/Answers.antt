@@ -4,23 +4,16 @@ use Rattle.pcm_desk.specs.Desk.{Desk, held_by, leaving, with_descriptor}
 use Rattle.pcm_engine.specs.declared.descriptors.Descriptors.{Descriptors}
 use Rattle.pcm_engine.specs.Desks.{desk_with, with_held}
 use Rattle.pcm_engine.proofs.Answering.{leaves-nothing, own-closable}
-use Rattle.pcm_engine.proofs.Turning.{closes-held, held-few, held-there, holding-is}
+use Rattle.pcm_engine.proofs.Turning.{closes-held, holding-is, open-few, open-there}
 use Rattle.pcm_engine.proofs.clients.close.Goals as goal
 
 pub close_channel-answer-requires : goal.close_channel-answer-requires
 close_channel-answer-requires g c =
-    let parent = c.args.parent.now in
-    let descriptors = c.args.descriptors.now in
-    let held = c.in_ok-held.held in
-    let e = holding-is (held_by (desk_with parent descriptors) c.args.fd) held (sym c.holding.ensures ∙ c.in_ok-held.was) in
-    let there = held-there parent descriptors c.args.fd held c.requires.apart e in
+    let there = open-there c.args.parent.now c.args.descriptors.now c.args.fd c.in_ok-held.held c.requires.apart (sym c.holding.ensures ∙ c.in_ok-held.was) in
     record { play = there.0; recording = there.1; mapped = there.2; closable = search rules; count = search rules }
 
 pub leave-requires : goal.leave-requires
-leave-requires g c =
-    let parent = c.args.parent.now in
-    let held = c.in_ok-held.held in
-    held-few parent c.args.descriptors.now c.args.fd held c.requires.apart (holding-is (held_by (desk_with parent c.args.descriptors.now) c.args.fd) held (sym c.holding.ensures ∙ c.in_ok-held.was))
+leave-requires g c = open-few c.args.parent.now c.args.descriptors.now c.args.fd c.in_ok-held.held c.requires.apart (sym c.holding.ensures ∙ c.in_ok-held.was)
 
 pub returns-clause-desk : goal.returns-clause-desk
 returns-clause-desk g c = λ filters ready at.

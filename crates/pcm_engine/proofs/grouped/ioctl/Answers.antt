@@ -8,7 +8,7 @@ use Rattle.pcm_engine.specs.declared.descriptors.Descriptors.{Descriptors}
 use Rattle.pcm_engine.specs.Desks.{channel_asked, desk_with, request_call}
 use Rattle.pcm_engine.proofs.Answering.{answers-refusal}
 use Rattle.pcm_engine.proofs.Grouping.{handed-on, request-asks, request-refused}
-use Rattle.pcm_engine.proofs.Turning.{held-few, holding-is, holding-not}
+use Rattle.pcm_engine.proofs.Turning.{holding-is, holding-not, open-few}
 use Rattle.pcm_engine.proofs.grouped.ioctl.Goals as goal
 
 pub returns-in_err-held : goal.returns-in_err-held
@@ -20,9 +20,7 @@ returns-in_err-held g c =
     (handed-on c.from_residual.result errno c.from_residual.ensures.0 c.from_residual.ensures.1)
 
 pub refusal-requires : goal.refusal-requires
-refusal-requires g c =
-    held-few c.args.parent.now c.args.descriptors.now c.args.fd c.in_ok-held.held c.requires.apart
-    (holding-is (held_by (desk_with c.args.parent.now c.args.descriptors.now) c.args.fd) c.in_ok-held.held (sym c.holding.ensures ∙ c.in_ok-held.was))
+refusal-requires g c = open-few c.args.parent.now c.args.descriptors.now c.args.fd c.in_ok-held.held c.requires.apart (sym c.holding.ensures ∙ c.in_ok-held.was)
 
 pub returns-in-Some : goal.returns-in-Some
 returns-in-Some g c =
@@ -33,9 +31,7 @@ returns-in-Some g c =
     (request-refused (seen c.args.tables.now c.args.parent.now.device) desk c.args.fd c.args.request (held_by desk c.args.fd) held c.in-Some.errno e (sym c.refusal.ensures ∙ c.in-Some.is)) refl
 
 pub leave_by-requires : goal.leave_by-requires
-leave_by-requires g c =
-    held-few c.args.parent.now c.args.descriptors.now c.args.fd c.in_ok-held.held c.requires.apart
-    (holding-is (held_by (desk_with c.args.parent.now c.args.descriptors.now) c.args.fd) c.in_ok-held.held (sym c.holding.ensures ∙ c.in_ok-held.was))
+leave_by-requires g c = open-few c.args.parent.now c.args.descriptors.now c.args.fd c.in_ok-held.held c.requires.apart (sym c.holding.ensures ∙ c.in_ok-held.was)
 
 pub ask-requires-clause-apart : goal.ask-requires-clause-apart
 ask-requires-clause-apart g c =

@@ -12,7 +12,7 @@ use Rattle.pcm_engine.specs.declared.descriptors.Descriptors.{Descriptors}
 use Rattle.pcm_engine.specs.Desks.{channel_asked, desk_with, join_call}
 use Rattle.pcm_engine.proofs.Answering.{answers-refusal}
 use Rattle.pcm_engine.proofs.Grouping.{handed-on, join-busy, join-done, join-refused}
-use Rattle.pcm_engine.proofs.Turning.{held-few, held-there, holding-is, holding-not}
+use Rattle.pcm_engine.proofs.Turning.{holding-is, holding-not, open-few, open-there}
 use Rattle.pcm_engine.proofs.grouped.join.Goals as goal
 
 pub returns-in_err-held : goal.returns-in_err-held
@@ -24,9 +24,7 @@ returns-in_err-held g c =
     (handed-on c.from_residual.result errno c.from_residual.ensures.0 c.from_residual.ensures.1)
 
 pub join-requires : goal.join-requires
-join-requires g c =
-    held-few c.args.parent.now c.args.descriptors.now c.args.fd c.in_ok-held.held c.requires.apart
-    (holding-is (held_by (desk_with c.args.parent.now c.args.descriptors.now) c.args.fd) c.in_ok-held.held (sym c.holding.ensures ∙ c.in_ok-held.was))
+join-requires g c = open-few c.args.parent.now c.args.descriptors.now c.args.fd c.in_ok-held.held c.requires.apart (sym c.holding.ensures ∙ c.in_ok-held.was)
 
 pub returns-in_err-number : goal.returns-in_err-number
 returns-in_err-number g c =
@@ -41,9 +39,7 @@ returns-in_err-number g c =
 
 pub is_at_rest-requires : goal.is_at_rest-requires
 is_at_rest-requires g c =
-    let parent = c.args.parent.now in
-    let e = holding-is (held_by (desk_with parent c.args.descriptors.now) c.args.fd) c.in_ok-held.held (sym c.holding.ensures ∙ c.in_ok-held.was) in
-    let there = held-there parent c.args.descriptors.now c.args.fd c.in_ok-held.held c.requires.apart e in
+    let there = open-there c.args.parent.now c.args.descriptors.now c.args.fd c.in_ok-held.held c.requires.apart (sym c.holding.ensures ∙ c.in_ok-held.was) in
     record { play = there.0; recording = there.1; mapped = there.2 }
 
 pub returns-then-not-is_at_rest : goal.returns-then-not-is_at_rest
