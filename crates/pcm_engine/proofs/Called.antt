@@ -35,7 +35,7 @@ use Rattle.pcm_engine.specs.Stands.{RecordersStand, bytes_kept, frames_captured}
 use Rattle.pcm_engine.specs.Steps.{BusMoves, ChannelsMove, MapsMove, RecordersMove, bytes_answered}
 use Rattle.pcm_engine.proofs.Bringing.{descriptor-fits, wherever}
 use Rattle.pcm_engine.proofs.Recording.{all-record, answered-told, recorders-told, reply-made}
-use Rattle.pcm_engine.proofs.Standing.{Parts, StandsFor, Stepped, body-told, stands-told}
+use Rattle.pcm_engine.proofs.Standing.{ParentStands, body-told, stands-told}
 
 -- an event that brings these bytes and samples is applied to an engine
 abbrev pub AppliedTo : {B : Type 0} → (B → Kind) → (B → Kept) → Event → List ℕ → List ℤ → EngineOf B → EngineOf B → Reply → Type 0
@@ -84,10 +84,6 @@ as_named kind kept event bytes samples old new reply pool named a called =
 
 -- ---- a step on an event that a script names
 
--- the parts of an engine
-abbrev parts_of : {B : Type 0} → EngineOf B → Parts B
-parts_of engine = record { channels = play_channels engine.parent; maps = map_channels engine.parent; chain = engine.parent.bus.chain; ring = engine.parent.ring.bytes }
-
 -- a step, what the device gets by it, and what it needs
 record StepsIn {B : Type 0} (kind : B → Kind) (kept : B → Kept) (pool : Pool) (event : Event) (old new : EngineOf B) (told : Reply) (handed : List ℕ) : Type 0 where
   applied : AppliedIn kind kept pool event old new told
@@ -113,27 +109,12 @@ module _ {B : Type 0} (kind : B → Kind) (kept : B → Kept) (pool : Pool) (eve
   stands_next : StandsForNext kept pool event old new
   stands_next = λ events s.
       let a = t.applied in
-      let step : Stepped kind kept old.parent.device old.tables pool event (desk_of old) (desk_of new) (parts_of old) (parts_of new) = record {
-        desk = a.rules.desk;
-        play_before = refl;
-        play_now = refl;
-        slots = a.slots;
-        all_slots = items-count old.parent.channels ∙ old.parent.slots;
-        channels = a.channels;
-        map_before = refl;
-        map_now = refl;
-        mapped = a.maps_slots;
-        all_mapped = items-count old.parent.maps ∙ old.parent.maps_count;
-        own = old.order.own.mapped;
-        maps = a.maps;
-        bus = a.turns;
-      } in
-      let stood = stands-told kind kept old.parent.device old.tables pool (story events) event (desk_of old) (desk_of new) (parts_of old) (parts_of new) t.fits step s.playing in
+      let stood = stands-told kind kept old.tables pool (story events) event _ old.parent old.descriptors new.parent new.descriptors reply a t.fits s.playing old.order.own.mapped in
       let recorded = recorders-told kind kept device old.parent.device pool (story events) event (desk_of old) (desk_of new) (record_channels old.parent) (record_channels new.parent) t.captures t.fits refl old.order.own.recording
       s.playing.desk_is a.rules.desk refl refl a.recorders_slots a.recorders s.playing.valid s.recording in
       record {
-        playing = subst (λ (d : DeviceSeen). StandsFor kept d (desk_of new) (parts_of new) (story_of d pool (events ++ event ∷ []))) (sym device_same)
-            (subst (StandsFor kept device (desk_of new) (parts_of new)) (sym (pushed events)) stood);
+        playing = subst (λ (d : DeviceSeen). ParentStands kept d (desk_of new) new.parent (story_of d pool (events ++ event ∷ []))) (sym device_same)
+            (subst (ParentStands kept device (desk_of new) new.parent) (sym (pushed events)) stood);
         recording = subst (λ (d : DeviceSeen). RecordersStand kept d pool (record_channels new.parent) (story_of d pool (events ++ event ∷ []))) (sym device_same)
             (subst (RecordersStand kept device pool (record_channels new.parent)) (sym (pushed events)) recorded);
       }
@@ -151,7 +132,7 @@ module _ {B : Type 0} (kind : B → Kind) (kept : B → Kept) (pool : Pool) (eve
   hands_over : HandsOver kept pool event old handed
   hands_over = λ events s.
       ap (device_body device) (pushed events)
-      ∙ body-told kept device pool (story events) event (desk_of old) (parts_of old) t.fits s.playing
+      ∙ body-told kept device pool (story events) event (desk_of old) old.parent t.fits s.playing
       ∙ ap (λ (bytes : List ℕ). device_body device (story events) ++ bytes) (sym t.out)
 
   valid_next : (events : List Event) → Stands kept old pool events → StoryIsValid device (story (events ++ event ∷ []))
