@@ -1,6 +1,6 @@
 -- What a call leaves of a parent: it may change channels of one way alone, one of them, or none.
 use Rattle.std.proofs.Common.{rules, ◌≡◌, ℕ, ◌<◌, List, [], length, get_or, Result, Ok, Err, refl, sym, ap, ◌∙◌, subst}
-use Rattle.std.specs.Prelude.{OnErr}
+use Rattle.std.specs.Prelude.{All, OnErr}
 use Rattle.pcm_oss.specs.declared.reply.Answer.{Answer}
 use Rattle.pcm_oss.specs.declared.reply.Errno.{Errno}
 use Rattle.pcm_oss.specs.Replies.{bytes_due}
@@ -24,11 +24,10 @@ use Rattle.pcm_vchan.specs.declared.parent.ParentOf.{ParentOf}
 use Rattle.pcm_vchan.specs.Lending.{with_channel, with_map_channel, with_recorder}
 use Rattle.pcm_vchan.specs.Parents.{map_channels, play_channels, record_channels, untouched, AreClosable, AreServed, EachMapKeeps, EachPlayMoves, EachRecordMoves, KeepsOutput}
 use Rattle.pcm_vchan.specs.Slots.{MapKeeps, RecordAreOf}
-use Rattle.pcm_vchan.specs.Starts.{EachAt}
 use Rattle.pcm_vchan.proofs.Channels.{each_set, map-keeps-nothing, own_set}
 use Rattle.pcm_engine.specs.declared.descriptors.Descriptors.{Descriptors}
 use Rattle.pcm_engine.specs.Answered.{AnswersBy, LeavesParent}
-use Rattle.pcm_engine.specs.Desks.{ChangesBy, RepliesBy, desk_with}
+use Rattle.pcm_engine.specs.Desks.{ChangesBy, RepliesBy, TakesTurn, desk_with}
 use Rattle.pcm_engine.specs.Invariants.{AreOwn}
 
 -- channels that are served, or may be closed, are of their device
@@ -40,39 +39,33 @@ own-closable closable = record { playing = closable.own; recording = closable.re
 
 -- ---- channels of a way that stay
 
-play_own : {B : Type 0} (old new : ParentOf B) → new.device ≡ old.device → new.channels ≡ old.channels → PlayAreOf old.device (play_channels old) → PlayAreOf new.device (play_channels new)
-play_own {B} old new device channels own =
-    subst (λ (v : Fixed (PlayChannelOf B)). PlayAreOf new.device (fixed_items v)) (sym channels) (subst (λ (d : Device). PlayAreOf d (play_channels old)) (sym device) own)
-
-record_own : {B : Type 0} (old new : ParentOf B) → new.device ≡ old.device → new.recorders ≡ old.recorders → RecordAreOf old.device (record_channels old) → RecordAreOf new.device (record_channels new)
-record_own {B} old new device recorders own =
-    subst (λ (v : Fixed (RecordChannelOf B)). RecordAreOf new.device (fixed_items v)) (sym recorders) (subst (λ (d : Device). RecordAreOf d (record_channels old)) (sym device) own)
+-- they are of the same device still
+own-stays : {X : Type 0} (own : X → Device) (old new : Fixed X) (device last : Device) → last ≡ device → new ≡ old → All (λ (channel : X). own channel ≡ device) (fixed_items old) → All (λ (channel : X). own channel ≡ last) (fixed_items new)
+own-stays {X} own old new device last same stay each =
+    subst (λ (v : Fixed X). All (λ (channel : X). own channel ≡ last) (fixed_items v)) (sym stay) (subst (λ (d : Device). All (λ (channel : X). own channel ≡ d) (fixed_items old)) (sym same) each)
 
 pub map-own : {B : Type 0} (old new : ParentOf B) → new.device ≡ old.device → new.maps ≡ old.maps → MapAreOf old.device (map_channels old) → MapAreOf new.device (map_channels new)
-map-own {B} old new device maps own =
-    subst (λ (v : Fixed (MapChannelOf B)). MapAreOf new.device (fixed_items v)) (sym maps) (subst (λ (d : Device). MapAreOf d (map_channels old)) (sym device) own)
+map-own {B} old new = own-stays (λ (channel : MapChannelOf B). channel.path.device) old.maps new.maps old.device new.device
+
+-- and nothing happens to them
+each-stays : {X : Type 0} (how : X → X → Type 0) (old new : Fixed X) → ((channel : X) → how channel channel) → new ≡ old → Each how (fixed_items old) (fixed_items new)
+each-stays {X} how old new stays same = subst (λ (v : Fixed X). Each how (fixed_items old) (fixed_items v)) (sym same) (λ slot other there. stays (get_or (fixed_items old) slot other))
 
 pub play-stay : {B : Type 0} (kind : B → Kind) (kept : B → Kept) (filters : Filters) (moved : List ℕ) (old new : ParentOf B) → new.channels ≡ old.channels → EachPlayMoves kind kept filters moved 0 old new
-play-stay {B} kind kept filters moved old new same =
-    subst (λ (v : Fixed (PlayChannelOf B)). Each (PlayMoves kind kept filters moved 0) (play_channels old) (fixed_items v)) (sym same)
-    (λ slot other there. moves-nothing kind kept filters moved 0 (get_or (play_channels old) slot other))
+play-stay kind kept filters moved old new = each-stays (PlayMoves kind kept filters moved 0) old.channels new.channels (moves-nothing kind kept filters moved 0)
 
 pub record-stay : {B : Type 0} (kind : B → Kind) (kept : B → Kept) (filters : Filters) (old new : ParentOf B) → new.recorders ≡ old.recorders → EachRecordMoves kind kept filters [] 0 old new
-record-stay {B} kind kept filters old new same =
-    subst (λ (v : Fixed (RecordChannelOf B)). Each (RecordMoves kind kept filters [] 0) (record_channels old) (fixed_items v)) (sym same)
-    (λ slot other there. recorders.moves-nothing kind kept filters [] 0 (get_or (record_channels old) slot other))
+record-stay kind kept filters old new = each-stays (RecordMoves kind kept filters [] 0) old.recorders new.recorders (recorders.moves-nothing kind kept filters [] 0)
 
 pub map-stay : {B : Type 0} (kind : B → Kind) (kept : B → Kept) (filters : Filters) (old new : ParentOf B) → new.maps ≡ old.maps → EachMapKeeps kind kept filters untouched old new
-map-stay {B} kind kept filters old new same =
-    subst (λ (v : Fixed (MapChannelOf B)). EachAt (λ slot. MapKeeps kind kept filters (untouched slot)) (map_channels old) (fixed_items v)) (sym same)
-    (λ slot other there. map-keeps-nothing kind kept filters (get_or (map_channels old) slot other))
+map-stay kind kept filters old new = each-stays (MapKeeps kind kept filters (untouched 0)) old.maps new.maps (map-keeps-nothing kind kept filters)
 
 -- ---- what is left where those of one way changed
 
 pub leaves-playing : {B : Type 0} (kind : B → Kind) (kept : B → Kept) (filters : Filters) (moved : List ℕ) (old new : ParentOf B) → AreOwn old → KeepsOutput old new → new.recorders ≡ old.recorders → new.maps ≡ old.maps
     → PlayAreOf new.device (play_channels new) → EachPlayMoves kind kept filters moved 0 old new → LeavesParent kind kept filters moved untouched old new
-leaves-playing kind kept filters moved old new own output recording mapped playing moves = record {
-  own = record { playing = playing; recording = record_own old new output.device_same recording own.recording; mapped = map-own old new output.device_same mapped own.mapped };
+leaves-playing {B} kind kept filters moved old new own output recording mapped playing moves = record {
+  own = record { playing = playing; recording = own-stays (λ (channel : RecordChannelOf B). channel.path.device) old.recorders new.recorders old.device new.device output.device_same recording own.recording; mapped = map-own old new output.device_same mapped own.mapped };
   output = output;
   channels = moves;
   recorders = record-stay kind kept filters old new recording;
@@ -81,8 +74,8 @@ leaves-playing kind kept filters moved old new own output recording mapped playi
 
 pub leaves-recording : {B : Type 0} (kind : B → Kind) (kept : B → Kept) (filters : Filters) (old new : ParentOf B) → AreOwn old → KeepsOutput old new → new.channels ≡ old.channels → new.maps ≡ old.maps
     → RecordAreOf new.device (record_channels new) → EachRecordMoves kind kept filters [] 0 old new → LeavesParent kind kept filters [] untouched old new
-leaves-recording kind kept filters old new own output playing mapped recording moves = record {
-  own = record { playing = play_own old new output.device_same playing own.playing; recording = recording; mapped = map-own old new output.device_same mapped own.mapped };
+leaves-recording {B} kind kept filters old new own output playing mapped recording moves = record {
+  own = record { playing = own-stays (λ (channel : PlayChannelOf B). channel.path.device) old.channels new.channels old.device new.device output.device_same playing own.playing; recording = recording; mapped = map-own old new output.device_same mapped own.mapped };
   output = output;
   channels = play-stay kind kept filters [] old new playing;
   recorders = moves;
@@ -91,8 +84,12 @@ leaves-recording kind kept filters old new own output playing mapped recording m
 
 pub leaves-mapping : {B : Type 0} (kind : B → Kind) (kept : B → Kept) (filters : Filters) (writes : ℕ → List ℕ → List ℕ) (old new : ParentOf B) → AreOwn old → KeepsOutput old new → new.channels ≡ old.channels → new.recorders ≡ old.recorders
     → MapAreOf new.device (map_channels new) → EachMapKeeps kind kept filters writes old new → LeavesParent kind kept filters [] writes old new
-leaves-mapping kind kept filters writes old new own output playing recording mapped keeps = record {
-  own = record { playing = play_own old new output.device_same playing own.playing; recording = record_own old new output.device_same recording own.recording; mapped = mapped };
+leaves-mapping {B} kind kept filters writes old new own output playing recording mapped keeps = record {
+  own = record {
+    playing = own-stays (λ (channel : PlayChannelOf B). channel.path.device) old.channels new.channels old.device new.device output.device_same playing own.playing;
+    recording = own-stays (λ (channel : RecordChannelOf B). channel.path.device) old.recorders new.recorders old.device new.device output.device_same recording own.recording;
+    mapped = mapped;
+  };
   output = output;
   channels = play-stay kind kept filters [] old new playing;
   recorders = record-stay kind kept filters old new recording;
@@ -159,3 +156,10 @@ pub answers-refusal : {B : Type 0} (kind : B → Kind) (kept : B → Kept) (filt
     → turn (seen filters parent.device) (desk_with parent descriptors) ≡ refusing (desk_with parent descriptors) errno → result ≡ Err errno → AnswersBy kind kept filters turn parent descriptors parent descriptors result
 answers-refusal kind kept filters turn parent descriptors result errno served refused is =
     answers-nothing kind kept filters turn parent descriptors result served (ap bytes_due is) (sym (ap (λ (t : DeskTurn). t.desk) refused)) (is ∙ sym (ap (λ (t : DeskTurn). t.reply) refused))
+
+pub refuses-turn : {B : Type 0} (turn : DeviceSeen → Desk → DeskTurn) (parent : ParentOf B) (descriptors : Descriptors) (result : Result Answer Errno) (errno : Errno) → ((device : DeviceSeen) → turn device (desk_with parent descriptors) ≡ refusing (desk_with parent descriptors) errno)
+    → result ≡ Err errno → TakesTurn turn parent parent descriptors result
+refuses-turn turn parent descriptors result errno refused is = record {
+  desk = λ filters. sym (ap (λ (t : DeskTurn). t.desk) (refused (seen filters parent.device)));
+  reply = λ filters. is ∙ sym (ap (λ (t : DeskTurn). t.reply) (refused (seen filters parent.device)));
+}

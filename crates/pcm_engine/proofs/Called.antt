@@ -110,8 +110,7 @@ module _ {B : Type 0} (kind : B → Kind) (kept : B → Kept) (pool : Pool) (eve
   stands_next = λ events s.
       let a = t.applied in
       let stood = stands-told kind kept old.tables pool (story events) event _ old.parent old.descriptors new.parent new.descriptors reply a t.fits s.playing old.order.own.mapped in
-      let recorded = recorders-told kind kept device old.parent.device pool (story events) event (desk_of old) (desk_of new) (record_channels old.parent) (record_channels new.parent) t.captures t.fits refl old.order.own.recording
-      s.playing.desk_is a.rules.desk refl refl a.recorders_slots a.recorders s.playing.valid s.recording in
+      let recorded = recorders-told kind kept old.tables pool (story events) event _ old.parent old.descriptors new.parent new.descriptors reply a t.captures t.fits old.order.own.recording s.playing.desk_is s.playing.valid s.recording in
       record {
         playing = subst (λ (d : DeviceSeen). ParentStands kept d (desk_of new) new.parent (story_of d pool (events ++ event ∷ []))) (sym device_same)
             (subst (ParentStands kept device (desk_of new) new.parent) (sym (pushed events)) stood);

@@ -43,6 +43,12 @@ use Rattle.pcm_vchan.specs.Captures.{Captures}
 use Rattle.pcm_bus.specs.Slots.{Each}
 use Rattle.pcm_vchan.specs.Slots.{AllRecordStand, RecordAreOf, record_books_of}
 use Rattle.pcm_vchan.proofs.Channels.{record-ready-moved}
+use Rattle.pcm_feeder.specs.Filters.{Filters}
+use Rattle.pcm_vchan.specs.declared.parent.ParentOf.{ParentOf}
+use Rattle.pcm_vchan.specs.Parents.{record_channels}
+use Rattle.pcm_engine.specs.declared.descriptors.Descriptors.{Descriptors}
+use Rattle.pcm_engine.specs.Applied.{Applied}
+use Rattle.pcm_engine.specs.Desks.{desk_with}
 use Rattle.pcm_engine.specs.Stands.{RecordersStand, bytes_kept, frames_captured}
 use Rattle.pcm_engine.specs.Brought.{samples_brought}
 use Rattle.pcm_engine.specs.Steps.{RecordersMove, bytes_answered, bytes_read, channel_read}
@@ -60,24 +66,28 @@ stands-less kind kept device old new bytes frames m s =
     subst (λ (b : List ℕ). RecordStands kept (filters_of device) new new.book (take new.book.kept b) (take new.book.captured frames)) (append-nil bytes)
     (subst (λ (f : List Frame). RecordStands kept (filters_of device) new new.book (take new.book.kept (bytes ++ [])) (take new.book.captured f)) (append-nil frames) stood)
 
+-- a channel stands for its slot of a story
+abbrev StandsAt : {B : Type 0} → (B → Kept) → DeviceSeen → Pool → Story → ℕ → RecordChannelOf B → Type 0
+StandsAt kept device pool story slot channel = RecordStands kept (filters_of device) channel (record_at device story.desk slot) (bytes_kept device story slot) (frames_captured device pool story slot)
+
+-- what an event leaves of a channel stands for its slot of the story after that event
+abbrev Told : {B : Type 0} → (B → Kept) → DeviceSeen → Pool → Story → Event → ℕ → RecordChannelOf B → RecordChannelOf B → Type 0
+Told kept device pool story event slot old new =
+    record_at device story.desk slot ≡ old.book → record_at device (told device pool story event).desk slot ≡ new.book
+    → StandsAt kept device pool story slot old → StandsAt kept device pool (told device pool story event) slot new
+
 -- an event that takes no frames
-still : {B : Type 0} (kind : B → Kind) (kept : B → Kept) (device : DeviceSeen) (pool : Pool) (story : Story) (event : Event) (before now : List (RecordChannelOf B)) → Fits device pool event → frames_taken event ≡ 0
-    → story.desk.recording ≡ record_books_of before → (told device pool story event).desk.recording ≡ record_books_of now → length now ≡ length before
-    → Each (RecordMoves kind kept (filters_of device) [] 0) before now → RecordersStand kept device pool before story
-    → (slot : ℕ) (other : RecordChannelOf B) → slot < length now
-    → RecordStands kept (filters_of device) (get_or now slot other) (record_at device (told device pool story event).desk slot) (bytes_kept device (told device pool story event) slot) (frames_captured device pool (told device pool story event) slot)
-still kind kept device pool story event before now fits none before_are now_are same moves s slot other within =
-    let there : slot < length before = omega arith in
-    let was = record_at-books device story.desk before slot other before_are there in
-    let is = record_at-books device (told device pool story event).desk now slot other now_are within in
-    let stood = subst (λ (b : RecordBook). RecordStands kept (filters_of device) (get_or before slot other) b (bytes_kept device story slot) (frames_captured device pool story slot)) was (s.slots slot other there) in
-    let stands = stands-less kind kept device (get_or before slot other) (get_or now slot other) (bytes_kept device story slot) (frames_captured device pool story slot) (moves slot other there) stood in
-    let new : RecordBook = record_at device (told device pool story event).desk slot in
-    let stands_new : RecordStands kept (filters_of device) (get_or now slot other) new (take new.kept (bytes_kept device story slot)) (take new.captured (frames_captured device pool story slot)) =
-    subst (λ (b : RecordBook). RecordStands kept (filters_of device) (get_or now slot other) b (take b.kept (bytes_kept device story slot)) (take b.captured (frames_captured device pool story slot))) (sym is) stands in
-    let f = recording-follows device pool story event slot fits none s.valid in
-    subst (λ (b : List ℕ). RecordStands kept (filters_of device) (get_or now slot other) new b (frames_captured device pool (told device pool story event) slot)) (sym f.bytes)
-    (subst (λ (x : List Frame). RecordStands kept (filters_of device) (get_or now slot other) new (take new.kept (bytes_kept device story slot)) x) (sym f.frames) stands_new)
+still : {B : Type 0} (kind : B → Kind) (kept : B → Kept) (device : DeviceSeen) (pool : Pool) (story : Story) (event : Event) (slot : ℕ) (old new : RecordChannelOf B) → Fits device pool event → frames_taken event ≡ 0
+    → RecordingsAreValid device pool story → RecordMoves kind kept (filters_of device) [] 0 old new → Told kept device pool story event slot old new
+still {B} kind kept device pool story event slot old new fits none v m = λ was is stood.
+    let Stands : RecordBook → List ℕ → List Frame → Type 0 = RecordStands kept (filters_of device) new in
+    let bytes : List ℕ = bytes_kept device story slot in
+    let frames : List Frame = frames_captured device pool story slot in
+    let now : RecordBook = record_at device (told device pool story event).desk slot in
+    let stands = stands-less kind kept device old new bytes frames m (subst (λ (b : RecordBook). RecordStands kept (filters_of device) old b bytes frames) was stood) in
+    let stands_now : Stands now (take now.kept bytes) (take now.captured frames) = subst (λ (b : RecordBook). Stands b (take b.kept bytes) (take b.captured frames)) (sym is) stands in
+    let f = recording-follows device pool story event slot fits none v in
+    subst (λ (b : List ℕ). Stands now b (frames_captured device pool (told device pool story event) slot)) (sym f.bytes) (subst (Stands now (take now.kept bytes)) (sym f.frames) stands_now)
 
 -- a channel that captured frames of its device stands for these too, and for what it kept of them
 stands-captured : {B : Type 0} (kind : B → Kind) (kept : B → Kept) (device : DeviceSeen) (n : ℕ) (more : List Frame) (before now : RecordChannelOf B) (old new : RecordBook) (bytes : List ℕ) (frames : List Frame)
@@ -95,52 +105,51 @@ stands-captured kind kept device n more before now old new bytes frames device_i
     subst (λ (b : RecordBook). RecordStands kept (filters_of device) now b (take b.kept (bytes ++ recorded_bytes device old.opening.settings (frames ++ more) old.given (keeping (record_rate_at device old) n old))) (take b.captured (frames ++ more))) new_is of_book
 
 -- an interrupt
-heard : {B : Type 0} (kind : B → Kind) (kept : B → Kept) (device : DeviceSeen) (own : Device) (pool : Pool) (story : Story) (n : ℕ) (before now : List (RecordChannelOf B)) → IsDevice device → IsCaptureIn (device_settings device).layout pool
-    → seen (filters_of device) own ≡ device → RecordAreOf own before
-    → story.desk.recording ≡ record_books_of before → (told device pool story (Intr n)).desk.recording ≡ record_books_of now → length now ≡ length before
-    → Each (Captures kind kept device n (interleaved (captured_frames (device_settings device).layout pool story.desk.handed n))) before now → RecordersStand kept device pool before story
-    → (slot : ℕ) (other : RecordChannelOf B) → slot < length now
-    → RecordStands kept (filters_of device) (get_or now slot other) (record_at device (told device pool story (Intr n)).desk slot) (bytes_kept device (told device pool story (Intr n)) slot) (frames_captured device pool (told device pool story (Intr n)) slot)
-heard {B = B} kind kept device own pool story n before now d captures seen_is are before_are now_are same moves s slot other within =
-    let there : slot < length before = omega arith in
+heard : {B : Type 0} (kind : B → Kind) (kept : B → Kept) (device : DeviceSeen) (pool : Pool) (story : Story) (n slot : ℕ) (old new : RecordChannelOf B) → IsDevice device → IsCaptureIn (device_settings device).layout pool
+    → seen (filters_of device) old.path.device ≡ device → RecordingsAreValid device pool story
+    → Captures kind kept device n (interleaved (captured_frames (device_settings device).layout pool story.desk.handed n)) old new → Told kept device pool story (Intr n) slot old new
+heard {B} kind kept device pool story n slot old new d captures device_is v c = λ was is stood.
+    let Stands : RecordBook → List ℕ → List Frame → Type 0 = RecordStands kept (filters_of device) new in
     let layout : Layout = (device_settings device).layout in
     let more : List Frame = captured_frames layout pool story.desk.handed n in
-    let old : RecordBook = record_at device story.desk slot in
-    let was = record_at-books device story.desk before slot other before_are there in
-    let is = record_at-books device (told device pool story (Intr n)).desk now slot other now_are within in
-    let went : record_at device (told device pool story (Intr n)).desk slot ≡ capturing device n old = record_at-capturing device story.desk n slot in
+    let before : RecordBook = record_at device story.desk slot in
+    let now : RecordBook = capturing device n before in
+    let bytes : List ℕ = bytes_kept device story slot in
+    let frames : List Frame = frames_captured device pool story slot in
+    let went : record_at device (told device pool story (Intr n)).desk slot ≡ now = record_at-capturing device story.desk n slot in
     let input = frames_of-interleaved (channels_of layout) more (channels_of-above layout) (captured_frames-channels layout pool story.desk.handed n captures) in
-    let device_is : seen (filters_of device) (get_or before slot other).path.device ≡ device = ap (λ (o : Device). seen (filters_of device) o) (are slot other there) ∙ seen_is in
-    let stands = stands-captured kind kept device n more (get_or before slot other) (get_or now slot other) old (capturing device n old) (bytes_kept device story slot) (frames_captured device pool story slot)
-    device_is input was (sym is ∙ went) (moves slot other there).moves (s.slots slot other there) in
-    let h = recording-hears device pool story n slot d s.valid in
-    let new : RecordBook = capturing device n old in
-    let after_is : RecordBook → Recording = λ b. recording_after device pool story.desk (Intr n) old b (story.recordings slot) in
-    subst (λ (b : RecordBook). RecordStands kept (filters_of device) (get_or now slot other) b (bytes_in b (after_is b)) (frames_of_book device pool b (after_is b))) (sym went)
-    (subst (λ (bytes : List ℕ). RecordStands kept (filters_of device) (get_or now slot other) new bytes (frames_of_book device pool new (after_is new))) (sym h.bytes)
-    (subst (λ (frames : List Frame). RecordStands kept (filters_of device) (get_or now slot other) new
-    (take new.kept (bytes_kept device story slot ++ recorded_bytes device old.opening.settings (frames_captured device pool story slot ++ more) old.given (keeping (record_rate_at device old) n old))) frames) (sym h.frames) stands))
+    let stands = stands-captured kind kept device n more old new before now bytes frames device_is input was (sym is ∙ went) c.moves stood in
+    let h = recording-hears device pool story n slot d v in
+    let after_is : RecordBook → Recording = λ b. recording_after device pool story.desk (Intr n) before b (story.recordings slot) in
+    subst (λ (b : RecordBook). Stands b (bytes_in b (after_is b)) (frames_of_book device pool b (after_is b))) (sym went)
+    (subst (λ (all : List ℕ). Stands now all (frames_of_book device pool now (after_is now))) (sym h.bytes)
+    (subst (Stands now (take now.kept (bytes ++ recorded_bytes device before.opening.settings (frames ++ more) before.given (keeping (record_rate_at device before) n before)))) (sym h.frames) stands))
 
--- each stands for its slot after an event
-slots_stand : {B : Type 0} (kind : B → Kind) (kept : B → Kept) (device : DeviceSeen) (own : Device) (pool : Pool) (story : Story) (event : Event) (before now : List (RecordChannelOf B)) → IsDevice device → IsCaptureIn (device_settings device).layout pool → Fits device pool event
-    → seen (filters_of device) own ≡ device → RecordAreOf own before
-    → story.desk.recording ≡ record_books_of before → (told device pool story event).desk.recording ≡ record_books_of now → length now ≡ length before
-    → RecordersMove kind kept device (samples_brought (device_settings device).layout pool story.desk.handed event) event before now → RecordersStand kept device pool before story
-    → (slot : ℕ) (other : RecordChannelOf B) → slot < length now
-    → RecordStands kept (filters_of device) (get_or now slot other) (record_at device (told device pool story event).desk slot) (bytes_kept device (told device pool story event) slot) (frames_captured device pool (told device pool story event) slot)
-slots_stand kind kept device own pool story (Intr frames) before now d c fits seen_is are b n same moves s = heard kind kept device own pool story frames before now d c seen_is are b n same moves s
-slots_stand kind kept device own pool story event before now d c fits seen_is are b n same moves s = still kind kept device pool story event before now fits refl b n same moves s
+-- each event
+recorder_told : {B : Type 0} (kind : B → Kind) (kept : B → Kept) (device : DeviceSeen) (pool : Pool) (story : Story) (event : Event) (before now : List (RecordChannelOf B)) (slot : ℕ) (other : RecordChannelOf B)
+    → IsDevice device → IsCaptureIn (device_settings device).layout pool → Fits device pool event → seen (filters_of device) (get_or before slot other).path.device ≡ device → slot < length before → RecordingsAreValid device pool story
+    → RecordersMove kind kept device (samples_brought (device_settings device).layout pool story.desk.handed event) event before now → Told kept device pool story event slot (get_or before slot other) (get_or now slot other)
+recorder_told kind kept device pool story (Intr n) before now slot other d captures fits own there v moves = heard kind kept device pool story n slot (get_or before slot other) (get_or now slot other) d captures own v (moves slot other there)
+recorder_told kind kept device pool story event before now slot other d captures fits own there v moves = still kind kept device pool story event slot (get_or before slot other) (get_or now slot other) fits refl v (moves slot other there)
 
 -- What stood for a story stands, one step on, for the story with one event more.
-pub recorders-told : {B : Type 0} (kind : B → Kind) (kept : B → Kept) (device : DeviceSeen) (own : Device) (pool : Pool) (story : Story) (event : Event) (old new : Desk) (before now : List (RecordChannelOf B)) → IsCaptureIn (device_settings device).layout pool → Fits device pool event
-    → seen (filters_of device) own ≡ device → RecordAreOf own before → old ≡ story.desk → new ≡ (after device old event).desk → old.recording ≡ record_books_of before → new.recording ≡ record_books_of now → length now ≡ length before
-    → RecordersMove kind kept device (samples_brought (device_settings device).layout pool old.handed event) event before now → StoryIsValid device story → RecordersStand kept device pool before story → RecordersStand kept device pool now (told device pool story event)
-recorders-told kind kept device own pool story event old new before now c fits seen_is are old_is new_is b n same moves v s =
-    let desk_is : new ≡ (told device pool story event).desk = new_is ∙ ap (λ (d : Desk). (after device d event).desk) old_is in
+pub recorders-told : {B : Type 0} (kind : B → Kind) (kept : B → Kept) (filters : Filters) (pool : Pool) (story : Story) (event : Event) (bytes : List ℕ) (old : ParentOf B) (before : Descriptors) (new : ParentOf B) (left : Descriptors) (reply : Reply)
+    → let device : DeviceSeen = seen filters old.device in
+    Applied kind kept filters event bytes (samples_brought (device_settings device).layout pool old.handed event) old before new left reply → IsCaptureIn (device_settings device).layout pool → Fits device pool event
+    → RecordAreOf old.device (record_channels old) → desk_with old before ≡ story.desk → StoryIsValid device story → RecordersStand kept device pool (record_channels old) story
+    → RecordersStand kept device pool (record_channels new) (told device pool story event)
+recorders-told kind kept filters pool story event bytes old before new left reply a captures fits own is v s =
+    let device : DeviceSeen = seen filters old.device in
+    let turned : desk_with new left ≡ (told device pool story event).desk = a.rules.desk ∙ ap (λ (d : Desk). (after device d event).desk) is in
+    let moves = subst (λ (d : Desk). RecordersMove kind kept device (samples_brought (device_settings device).layout pool d.handed event) event (record_channels old) (record_channels new)) is a.recorders in
     record {
-      slots = slots_stand kind kept device own pool story event before now v.limits c fits seen_is are (ap (λ (d : Desk). d.recording) (sym old_is) ∙ b) (ap (λ (d : Desk). d.recording) (sym desk_is) ∙ n) same
-          (subst (λ (d : Desk). RecordersMove kind kept device (samples_brought (device_settings device).layout pool d.handed event) event before now) old_is moves) s;
-      valid = recordings-told device pool story event v.limits c fits s.valid;
+      slots = λ slot other within.
+          let same = a.recorders_slots in
+          let there : slot < length (record_channels old) = omega arith in
+          recorder_told kind kept device pool story event (record_channels old) (record_channels new) slot other v.limits captures fits (ap (λ (d : Device). seen filters d) (own slot other there)) there s.valid moves
+          (record_at-books device story.desk (record_channels old) slot other (ap (λ (d : Desk). d.recording) (sym is)) there)
+          (record_at-books device (told device pool story event).desk (record_channels new) slot other (ap (λ (d : Desk). d.recording) (sym turned)) within) (s.slots slot other there);
+      valid = recordings-told device pool story event v.limits captures fits s.valid;
     }
 
 -- ---- what is ready, and what reads get

@@ -1,21 +1,21 @@
-use Rattle.std.proofs.Common.{rules, ◌≡◌, Option, length, refl, sym, ap, ◌∙◌, arith}
+use Rattle.std.proofs.Common.{Option, length, refl, sym, ap, ◌∙◌, arith}
 use Rattle.std.proofs.lemmas.Result.{on_err_weaker}
 use Rattle.pcm_fixed.proofs.Items.{item-kept, items-count}
 use Rattle.pcm_oss.specs.declared.event.Event.TheVariants.{Poke}
 use Rattle.pcm_oss.specs.declared.event.Way.TheVariants.{Map}
 use Rattle.pcm_desk.specs.declared.device.Held.{Held}
 use Rattle.pcm_oss.specs.Replies.{bytes_due}
-use Rattle.pcm_desk.specs.Device.{DeviceSeen, seen}
+use Rattle.pcm_desk.specs.Device.{seen}
 use Rattle.pcm_desk.specs.MapBooks.{poke_turn}
-use Rattle.pcm_desk.specs.Desk.{DeskTurn, channel_turn, held_by, refusing}
+use Rattle.pcm_desk.specs.Desk.{channel_turn, held_by}
 use Rattle.pcm_desk.proofs.Refused.{poke-kept}
 use Rattle.pcm_desk.proofs.Silent.{poke-silent}
 use Rattle.pcm_vchan.proofs.Channels.{parent_same}
 use Rattle.pcm_vchan.specs.Parents.{map_channels}
-use Rattle.pcm_engine.specs.Desks.{desk_with}
+use Rattle.pcm_engine.specs.Desks.{desk_with, poke_call}
 use Rattle.pcm_engine.proofs.Mapped.{each-poked, each-unpoked}
 use Rattle.pcm_engine.proofs.Turning.{desk-mapped, map-found, slot-is, reply-mapped, poke-refused, unmapped}
-use Rattle.pcm_engine.proofs.Answering.{leaves-mapping, leaves-written, output-same}
+use Rattle.pcm_engine.proofs.Answering.{leaves-mapping, leaves-written, output-same, refuses-turn}
 use Rattle.pcm_engine.proofs.Grouping.{handed-on}
 use Rattle.pcm_engine.proofs.clients.poke.Goals as goal
 
@@ -55,25 +55,18 @@ returns g c =
           (c.poke.ensures.book ∙ poke-kept c.args.offset count lent.book) c.poke.ensures.area (c.poke.ensures.moves filters));
     }
 
-pub returns-in_err-slot : goal.returns-in_err-slot
-returns-in_err-slot g c =
+pub returns-in_err-slot-clause-leaves : goal.returns-in_err-slot-clause-leaves
+returns-in_err-slot-clause-leaves g c = λ filters.
     let parent = c.args.parent.now in
-    let desk = desk_with parent c.args.descriptors.now in
-    let found = held_by desk c.args.fd in
+    let found = held_by (desk_with parent c.args.descriptors.now) c.args.fd in
+    leaves-mapping g.B.Feeder.kind g.B.Feeder.kept filters _ parent parent c.requires.own (output-same parent) refl refl c.requires.own.mapped
+    (each-unpoked g.B.Feeder.kind g.B.Feeder.kept filters found c.args.offset c.args.bytes.now (map_channels parent) (unmapped found c.in_err-slot.field-0.0 (sym c.slot_of.ensures ∙ c.in_err-slot.was)))
+
+pub returns-in_err-slot-clause-turn : goal.returns-in_err-slot-clause-turn
+returns-in_err-slot-clause-turn g c =
+    let desk = desk_with c.args.parent.now c.args.descriptors.now in
+    let n = length c.args.bytes.now in
     let errno = c.in_err-slot.field-0.0 in
-    let not = sym c.slot_of.ensures ∙ c.in_err-slot.was in
-    let refused : (device : DeviceSeen) → channel_turn device desk (Poke c.args.fd c.args.offset 0 (length c.args.bytes.now)) found ≡ refusing desk errno =
-    λ device. poke-refused device desk c.args.fd c.args.offset 0 (length c.args.bytes.now) found errno not in
-    record {
-      silent = search rules;
-      refused = search rules;
-      turn = record {
-        desk = λ filters. sym (ap (λ (t : DeskTurn). t.desk) (refused (seen filters parent.device)));
-        reply = λ filters.
-            handed-on c.from_residual.result errno c.from_residual.ensures.0 c.from_residual.ensures.1
-            ∙ sym (ap (λ (t : DeskTurn). t.reply) (refused (seen filters parent.device)));
-      };
-      leaves = λ filters.
-          leaves-mapping g.B.Feeder.kind g.B.Feeder.kept filters _ parent parent c.requires.own (output-same parent) refl refl c.requires.own.mapped
-          (each-unpoked g.B.Feeder.kind g.B.Feeder.kept filters found c.args.offset c.args.bytes.now (map_channels parent) (unmapped found errno not));
-    }
+    refuses-turn (poke_call c.args.fd c.args.offset n) c.args.parent.now c.args.descriptors.now _ errno
+    (λ device. poke-refused device desk c.args.fd c.args.offset 0 n (held_by desk c.args.fd) errno (sym c.slot_of.ensures ∙ c.in_err-slot.was))
+    (handed-on c.from_residual.result errno c.from_residual.ensures.0 c.from_residual.ensures.1)

@@ -1,20 +1,20 @@
-use Rattle.std.proofs.Common.{rules, ◌≡◌, [], Option, length, take, drop, refl, sym, ap, ◌∙◌, subst, arith}
+use Rattle.std.proofs.Common.{rules, [], Option, length, take, drop, refl, sym, ap, ◌∙◌, subst, arith}
 use Rattle.std.proofs.lemmas.Result.{on_err_weaker}
 use Rattle.pcm_fixed.proofs.Items.{item-kept, items-count}
 use Rattle.pcm_oss.specs.declared.event.Event.TheVariants.{Read}
 use Rattle.pcm_oss.specs.declared.event.Way.TheVariants.{Record}
 use Rattle.pcm_desk.specs.declared.device.Held.{Held}
-use Rattle.pcm_desk.specs.Device.{DeviceSeen, seen}
+use Rattle.pcm_desk.specs.Device.{seen}
 use Rattle.pcm_desk.specs.RecordBooks.{read_turn}
-use Rattle.pcm_desk.specs.Desk.{DeskTurn, channel_turn, held_by, record_unopened, refusing}
+use Rattle.pcm_desk.specs.Desk.{channel_turn, held_by, record_unopened}
 use Rattle.pcm_desk.proofs.Silent.{read-due}
 use Rattle.pcm_record.specs.declared.channel.RecordChannelOf.{RecordChannelOf}
 use Rattle.pcm_record.specs.Channels.{RecordStands}
 use Rattle.pcm_vchan.proofs.Channels.{parent_same, record_at-channel}
 use Rattle.pcm_oss.specs.Replies.{bytes_due}
-use Rattle.pcm_engine.specs.Desks.{desk_with}
+use Rattle.pcm_engine.specs.Desks.{desk_with, read_call}
 use Rattle.pcm_engine.proofs.Turning.{bytes_read-held, channel_of, desk-recorded, read-refused, record-found, reply-recorded, slot-is}
-use Rattle.pcm_engine.proofs.Answering.{leaves-nothing, leaves-recorded}
+use Rattle.pcm_engine.proofs.Answering.{leaves-nothing, leaves-recorded, refuses-turn}
 use Rattle.pcm_engine.proofs.Grouping.{handed-on}
 use Rattle.pcm_vchan.specs.Parents.{record_channels}
 use Rattle.pcm_engine.proofs.clients.read.Goals as goal
@@ -65,12 +65,8 @@ returns-in_err-slot-clause-leaves g c = λ filters. leaves-nothing g.B.Feeder.ki
 pub returns-in_err-slot-clause-turn : goal.returns-in_err-slot-clause-turn
 returns-in_err-slot-clause-turn g c =
     let desk = desk_with c.args.parent.now c.args.descriptors.now in
+    let n = length c.args.out.now in
     let errno = c.in_err-slot.field-0.0 in
-    let refused : (device : DeviceSeen) → channel_turn device desk (Read c.args.fd (length c.args.out.now)) (held_by desk c.args.fd) ≡ refusing desk errno =
-    λ device. read-refused device desk c.args.fd (length c.args.out.now) (held_by desk c.args.fd) errno (sym c.slot_of.ensures ∙ c.in_err-slot.was) in
-    record {
-      desk = λ filters. sym (ap (λ (t : DeskTurn). t.desk) (refused (seen filters c.args.parent.now.device)));
-      reply = λ filters.
-          handed-on c.from_residual.result errno c.from_residual.ensures.0 c.from_residual.ensures.1
-          ∙ sym (ap (λ (t : DeskTurn). t.reply) (refused (seen filters c.args.parent.now.device)));
-    }
+    refuses-turn (read_call c.args.fd n) c.args.parent.now c.args.descriptors.now _ errno
+    (λ device. read-refused device desk c.args.fd n (held_by desk c.args.fd) errno (sym c.slot_of.ensures ∙ c.in_err-slot.was))
+    (handed-on c.from_residual.result errno c.from_residual.ensures.0 c.from_residual.ensures.1)

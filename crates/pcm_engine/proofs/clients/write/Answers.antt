@@ -1,4 +1,4 @@
-use Rattle.std.proofs.Common.{rules, ◌≡◌, ◌+◌, ◌<◌, Option, length, refl, sym, ap, ◌∙◌, subst, arith}
+use Rattle.std.proofs.Common.{◌+◌, ◌<◌, Option, length, refl, sym, ap, ◌∙◌, subst, arith}
 use Rattle.std.proofs.lemmas.Result.{on_err_weaker}
 use Rattle.pcm_fixed.proofs.Items.{item-kept, items-count}
 use Rattle.pcm_oss.specs.declared.event.Event.TheVariants.{Write}
@@ -6,16 +6,16 @@ use Rattle.pcm_oss.specs.declared.event.Way.TheVariants.{Play}
 use Rattle.pcm_wave.specs.declared.pool.Source.TheVariants.{Inline}
 use Rattle.pcm_desk.specs.declared.device.Held.{Held}
 use Rattle.pcm_desk.specs.declared.here.Here.{Here}
-use Rattle.pcm_desk.specs.Device.{DeviceSeen, seen}
+use Rattle.pcm_desk.specs.Device.{seen}
 use Rattle.pcm_desk.specs.PlayBooks.{write_turn}
-use Rattle.pcm_desk.specs.Desk.{DeskTurn, channel_turn, desk_here, held_by, refusing}
+use Rattle.pcm_desk.specs.Desk.{channel_turn, desk_here, held_by}
 use Rattle.pcm_desk.proofs.Silent.{write-silent}
 use Rattle.pcm_play.specs.declared.channel.PlayChannelOf.{PlayChannelOf}
 use Rattle.pcm_vchan.proofs.Channels.{parent_same}
 use Rattle.pcm_oss.specs.Replies.{bytes_due}
-use Rattle.pcm_engine.specs.Desks.{desk_with}
+use Rattle.pcm_engine.specs.Desks.{desk_with, write_call}
 use Rattle.pcm_engine.proofs.Turning.{desk-played, play-found, reply-played, slot-is, write-refused}
-use Rattle.pcm_engine.proofs.Answering.{leaves-nothing, leaves-played}
+use Rattle.pcm_engine.proofs.Answering.{leaves-nothing, leaves-played, refuses-turn}
 use Rattle.pcm_engine.proofs.Grouping.{handed-on}
 use Rattle.pcm_engine.proofs.clients.write.Goals as goal
 
@@ -63,21 +63,15 @@ returns g c =
           leaves-played g.B.Feeder.kind g.B.Feeder.kept filters c.args.bytes.now parent slot lent c.write.new.self c.requires.own there is c.write.ensures.device (c.write.ensures.moves filters);
     }
 
-pub returns-in_err-slot : goal.returns-in_err-slot
-returns-in_err-slot g c =
-    let parent = c.args.parent.now in
-    let desk = desk_with parent c.args.descriptors.now in
+pub returns-in_err-slot-clause-leaves : goal.returns-in_err-slot-clause-leaves
+returns-in_err-slot-clause-leaves g c = λ filters. leaves-nothing g.B.Feeder.kind g.B.Feeder.kept filters c.args.bytes.now c.args.parent.now c.requires.own
+
+pub returns-in_err-slot-clause-turn : goal.returns-in_err-slot-clause-turn
+returns-in_err-slot-clause-turn g c =
+    let desk = desk_with c.args.parent.now c.args.descriptors.now in
+    let n = length c.args.bytes.now in
     let errno = c.in_err-slot.field-0.0 in
-    let refused : (device : DeviceSeen) → channel_turn device desk (Write c.args.fd Inline 0 (length c.args.bytes.now)) (held_by desk c.args.fd) ≡ refusing desk errno =
-    λ device. write-refused device desk c.args.fd Inline 0 (length c.args.bytes.now) (held_by desk c.args.fd) errno (sym c.slot_of.ensures ∙ c.in_err-slot.was) in
-    record {
-      silent = search rules;
-      refused = search rules;
-      turn = record {
-        desk = λ filters at. sym (ap (λ (t : DeskTurn). t.desk) (refused (seen filters parent.device)));
-        reply = λ filters at.
-            handed-on c.from_residual.result errno c.from_residual.ensures.0 c.from_residual.ensures.1
-            ∙ sym (ap (λ (t : DeskTurn). t.reply) (refused (seen filters parent.device)));
-      };
-      leaves = λ filters. leaves-nothing g.B.Feeder.kind g.B.Feeder.kept filters c.args.bytes.now parent c.requires.own;
-    }
+    let turn = refuses-turn (write_call c.args.fd n) c.args.parent.now c.args.descriptors.now _ errno
+    (λ device. write-refused device desk c.args.fd Inline 0 n (held_by desk c.args.fd) errno (sym c.slot_of.ensures ∙ c.in_err-slot.was))
+    (handed-on c.from_residual.result errno c.from_residual.ensures.0 c.from_residual.ensures.1) in
+    record { desk = λ filters at. turn.desk filters; reply = λ filters at. turn.reply filters }
