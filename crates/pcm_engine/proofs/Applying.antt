@@ -81,11 +81,11 @@ no_bytes : (device : DeviceSeen) (desk : Desk) (bytes : ℕ → List ℕ) (event
 no_bytes device desk bytes (Read fd count) told = absurd told
 no_bytes device desk bytes event told = refl
 
-applied_as : {B : Type 0} (kind : B → Kind) (kept : B → Kept) (filters : Filters) (call : Event) (bytes : List ℕ) (samples : List ℤ) (old : ParentOf B) (before : Descriptors) (new : ParentOf B) (left : Descriptors) (told : Reply)
+pub applied-call : {B : Type 0} {kind : B → Kind} {kept : B → Kept} {filters : Filters} (call : Event) {bytes : List ℕ} {samples : List ℤ} {old : ParentOf B} {before : Descriptors} {new : ParentOf B} {left : Descriptors} {told : Reply}
     → IsCall call → HasBus kept (seen filters old.device) old → LeavesParent kind kept filters (bytes_moved bytes call) (area_written bytes (desk_with old before) call) old new → FollowsRules kept filters call old before new left told
     → Applied kind kept filters call bytes samples old before new left told
-applied_as kind kept filters (Intr n) bytes samples old before new left told calls has leaves rules = absurd calls
-applied_as kind kept filters call bytes samples old before new left told calls has leaves rules = record {
+applied-call (Intr n) calls has leaves rules = absurd calls
+applied-call {B} {kind} {kept} {filters} call {bytes} {samples} {old} {before} {new} calls has leaves rules = record {
   rules = rules;
   device = leaves.output.device_same;
   own = leaves.own;
@@ -98,12 +98,6 @@ applied_as kind kept filters call bytes samples old before new left told calls h
   bus = bus-stays kept (seen filters old.device) old new leaves.output has;
   turns = bus-same old new leaves.output;
 }
-
-pub applied-call : {B : Type 0} {kind : B → Kind} {kept : B → Kept} {filters : Filters} {event call : Event} {bytes : List ℕ} {samples : List ℤ} {old : ParentOf B} {before : Descriptors} {new : ParentOf B} {left : Descriptors} {told : Reply}
-    → event ≡ call → IsCall call → HasBus kept (seen filters old.device) old → LeavesParent kind kept filters (bytes_moved bytes call) (area_written bytes (desk_with old before) call) old new → FollowsRules kept filters call old before new left told
-    → Applied kind kept filters event bytes samples old before new left told
-applied-call {B} {kind} {kept} {filters} {event} {call} {bytes} {samples} {old} {before} {new} {left} {told} is calls has leaves rules =
-    subst (λ (e : Event). Applied kind kept filters e bytes samples old before new left told) (sym is) (applied_as kind kept filters call bytes samples old before new left told calls has leaves rules)
 
 -- what is answered alone
 refusal : {P : Type 0} (result : Result Answer Errno) → IsErr result → OnErr result P → P
@@ -122,44 +116,45 @@ alone kept filters call old before new left result told tells is refused desk re
       answered = λ bytes frames stand. ap (λ (r : Reply). r.bytes) is ∙ no_bytes (seen filters old.device) (desk_with old before) bytes call tells;
     }
 
-pub applied-answer : {B : Type 0} {kind : B → Kind} {kept : B → Kept} {filters : Filters} {event call : Event} {bytes : List ℕ} {samples : List ℤ} {old : ParentOf B} {before : Descriptors} {new : ParentOf B} {left : Descriptors} {result : Result Answer Errno} {told : Reply}
-    → event ≡ call → IsTold call → HasBus kept (seen filters old.device) old → told ≡ record { result = result; bytes = [] } → OnErr result ((new ≡ old) × (left ≡ before))
+pub applied-answer : {B : Type 0} {kind : B → Kind} {kept : B → Kept} {filters : Filters} (call : Event) {bytes : List ℕ} {samples : List ℤ} {old : ParentOf B} {before : Descriptors} {new : ParentOf B} {left : Descriptors} {result : Result Answer Errno} {told : Reply}
+    → IsTold call → HasBus kept (seen filters old.device) old → told ≡ record { result = result; bytes = [] } → OnErr result ((new ≡ old) × (left ≡ before))
     → ChangesBy filters (λ device desk. after device desk call) old before new left → RepliesBy filters (λ device desk. after device desk call) old before result
-    → LeavesParent kind kept filters (bytes_moved bytes call) (area_written bytes (desk_with old before) call) old new → Applied kind kept filters event bytes samples old before new left told
-applied-answer {B} {kind} {kept} {filters} {event} {call} {bytes} {samples} {old} {before} {new} {left} {result} {told} is tells has kept_is refused desk reply leaves =
-    applied-call is (told_calls call tells) has leaves (alone kept filters call old before new left result told tells kept_is (λ err. refusal result err refused) desk reply)
+    → LeavesParent kind kept filters (bytes_moved bytes call) (area_written bytes (desk_with old before) call) old new → Applied kind kept filters call bytes samples old before new left told
+applied-answer {B} {kind} {kept} {filters} call {bytes} {samples} {old} {before} {new} {left} {result} {told} tells has kept_is refused desk reply leaves =
+    applied-call call (told_calls call tells) has leaves (alone kept filters call old before new left result told tells kept_is (λ err. refusal result err refused) desk reply)
 
 -- ---- what is asked of the mixer device
 
 pub own-mixed : {B : Type 0} {old new : ParentOf B} {levels : Levels} → new ≡ with_mixer old levels → AreOwn old → AreOwn new
 own-mixed is own = subst AreOwn (sym is) (record { playing = own.playing; recording = own.recording; mapped = own.mapped })
 
-pub applied-mixer : {B : Type 0} {kind : B → Kind} {kept : B → Kept} {filters : Filters} {event : Event} {bytes : List ℕ} {samples : List ℤ} {old : ParentOf B} {before : Descriptors} {new : ParentOf B} {result : Result Answer Errno} {told : Reply} {request : MixRequest}
-    → event ≡ Mixer request → AreOwn old → HasBus kept (seen filters old.device) old → told ≡ record { result = result; bytes = [] } → (IsErr result → new ≡ old)
+pub applied-mixer : {B : Type 0} {kind : B → Kind} {kept : B → Kept} {filters : Filters} (request : MixRequest) {bytes : List ℕ} {samples : List ℤ} {old : ParentOf B} {before : Descriptors} {new : ParentOf B} {result : Result Answer Errno} {told : Reply}
+    → AreOwn old → HasBus kept (seen filters old.device) old → told ≡ record { result = result; bytes = [] } → (IsErr result → new ≡ old)
     → new ≡ with_mixer old (mixer_after (mixed_slots (unfiltered old.device)) request old.mixer) → result ≡ mixer_reply (mixed_slots (unfiltered old.device)) request old.mixer
-    → Applied kind kept filters event bytes samples old before new before told
-applied-mixer {B} {kind} {kept} {filters} {event} {bytes} {samples} {old} {before} {new} {result} {told} {request} event_is own has kept_is refused is reply =
-    subst (λ (e : Event). Applied kind kept filters e bytes samples old before new before told) (sym event_is) (record {
-      rules = alone kept filters (Mixer request) old before new before result told tt kept_is (λ err. (refused err, refl)) (ap (λ (p : ParentOf B). desk_with p before) is) reply;
-      device = ap (λ (p : ParentOf B). p.device) is;
-      own = own-mixed is own;
-      slots = ap (λ (p : ParentOf B). length (play_channels p)) is;
-      recorders_slots = ap (λ (p : ParentOf B). length (record_channels p)) is;
-      maps_slots = ap (λ (p : ParentOf B). length (map_channels p)) is;
-      channels = play-stay kind kept filters [] old new (ap (λ (p : ParentOf B). p.channels) is);
-      recorders = record-stay kind kept filters old new (ap (λ (p : ParentOf B). p.recorders) is);
-      maps = map-stay kind kept filters old new (ap (λ (p : ParentOf B). p.maps) is);
-      bus = subst (HasBus kept (seen filters old.device)) (sym is) (record { planned = has.planned; made = has.made; level = has.level });
-      turns = (ap (λ (p : ParentOf B). p.bus.chain) is, ap (λ (p : ParentOf B). p.ring.bytes) is);
-    })
+    → Applied kind kept filters (Mixer request) bytes samples old before new before told
+applied-mixer {B} {kind} {kept} {filters} request {bytes} {samples} {old} {before} {new} {result} {told} own has kept_is refused is reply = record {
+  rules = alone kept filters (Mixer request) old before new before result told tt kept_is (λ err. (refused err, refl)) (ap (λ (p : ParentOf B). desk_with p before) is) reply;
+  device = ap (λ (p : ParentOf B). p.device) is;
+  own = own-mixed is own;
+  slots = ap (λ (p : ParentOf B). length (play_channels p)) is;
+  recorders_slots = ap (λ (p : ParentOf B). length (record_channels p)) is;
+  maps_slots = ap (λ (p : ParentOf B). length (map_channels p)) is;
+  channels = play-stay kind kept filters [] old new (ap (λ (p : ParentOf B). p.channels) is);
+  recorders = record-stay kind kept filters old new (ap (λ (p : ParentOf B). p.recorders) is);
+  maps = map-stay kind kept filters old new (ap (λ (p : ParentOf B). p.maps) is);
+  bus = subst (HasBus kept (seen filters old.device)) (sym is) (record { planned = has.planned; made = has.made; level = has.level });
+  turns = (ap (λ (p : ParentOf B). p.bus.chain) is, ap (λ (p : ParentOf B). p.ring.bytes) is);
+}
 
--- ---- an interrupt
+-- ---- whatever the event
 
+-- what is applied is the event that is this one
+pub applied-at : {B : Type 0} {kind : B → Kind} {kept : B → Kept} (engine : EngineOf B) {event call : Event} {bytes : List ℕ} {new : ParentOf B} {left : Descriptors} {told : Reply} → event ≡ call
+    → Applied kind kept engine.tables call bytes (samples_at_hand engine call) engine.parent engine.descriptors new left told → Applied kind kept engine.tables event bytes (samples_at_hand engine event) engine.parent engine.descriptors new left told
+applied-at {B} {kind} {kept} engine {event} {call} {bytes} {new} {left} {told} is a =
+    subst (λ (e : Event). Applied kind kept engine.tables e bytes (samples_at_hand engine e) engine.parent engine.descriptors new left told) (sym is) a
+
+-- what is accepted isn't refused
 pub accepted : {P : Type 0} (result : Result Answer Errno) (answer : Answer) → result ≡ Ok answer → IsErr result → P
 accepted (Ok given) answer is err = cc
 accepted (Err errno) answer is err = cc
-
-pub applied-interrupt : {B : Type 0} {kind : B → Kind} {kept : B → Kept} (engine : EngineOf B) {event call : Event} {bytes : List ℕ} {new : ParentOf B} {left : Descriptors} {told : Reply} → event ≡ call
-    → Applied kind kept engine.tables call bytes (samples_at_hand engine call) engine.parent engine.descriptors new left told → Applied kind kept engine.tables event bytes (samples_at_hand engine event) engine.parent engine.descriptors new left told
-applied-interrupt {B} {kind} {kept} engine {event} {call} {bytes} {new} {left} {told} is a =
-    subst (λ (e : Event). Applied kind kept engine.tables e bytes (samples_at_hand engine e) engine.parent engine.descriptors new left told) (sym is) a

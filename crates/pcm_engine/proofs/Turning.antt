@@ -31,7 +31,7 @@ use Rattle.pcm_map.specs.declared.channel.MapChannelOf.{MapChannelOf}
 use Rattle.pcm_vchan.specs.declared.parent.ParentOf.{ParentOf}
 use Rattle.pcm_bus.specs.Slots.{PlayAreOf}
 use Rattle.pcm_vchan.specs.Slots.{slot_place}
-use Rattle.pcm_vchan.specs.Parents.{map_books, map_channels, play_books, play_channels, record_channels, record_books, slot_or_busy}
+use Rattle.pcm_vchan.specs.Parents.{map_channels, play_channels, record_channels, slot_or_busy}
 use Rattle.pcm_vchan.specs.Lending.{with_channel, with_map_channel, with_recorder}
 use Rattle.pcm_bus.proofs.Channels.{map_at-channel, play_at-channel}
 use Rattle.pcm_vchan.proofs.Channels.{map_books_of-set, play_books_of-set, record_at-channel, record_books_of-set}
@@ -202,50 +202,37 @@ open-few parent descriptors fd held h e = held-few parent descriptors fd held h 
 pub own-lent : {B : Type 0} (device : Device) (channels : List (PlayChannelOf B)) (slot : ℕ) (lent : PlayChannelOf B) → slot < length channels → lent ≡ get_or channels slot lent → PlayAreOf device channels → lent.path.device ≡ device
 own-lent {B = B} device channels slot lent there is own = ap (λ (channel : PlayChannelOf B). channel.path.device) is ∙ own slot lent there
 
--- the desk, where the book of the channel was turned
-pub desk-played : {B : Type 0} (device : DeviceSeen) (turn : PlayBook → Turn PlayBook) (parent : ParentOf B) (descriptors : Descriptors) (slot : ℕ) (lent new : PlayChannelOf B)
-    → slot < length (play_channels parent) → lent ≡ get_or (play_channels parent) slot lent → new.book ≡ (turn lent.book).book
-    → desk_with (with_channel parent slot new) descriptors ≡ with_channel_at (desk_with parent descriptors) slot (Playing (turn (play_at device (desk_with parent descriptors) slot)).book)
-desk-played device turn parent descriptors slot lent new there is changed =
-    ap (λ (play : List PlayBook). record { play = play; recording = record_books parent; mapped = map_books parent; descriptors = descriptors.held.value; groups = descriptors.groups; mixer = parent.mixer; handed = parent.handed; mixed = parent.mixed })
-    (play_books_of-set (λ (book : PlayBook). (turn book).book) (play_channels parent) slot lent new (play_unopened device) there is changed)
-
--- and the reply
-pub reply-played : {B : Type 0} (device : DeviceSeen) (turn : PlayBook → Turn PlayBook) (parent : ParentOf B) (descriptors : Descriptors) (slot : ℕ) (lent : PlayChannelOf B) (answer : Result Answer Errno)
-    → slot < length (play_channels parent) → lent ≡ get_or (play_channels parent) slot lent → answer ≡ (turn lent.book).reply
-    → answer ≡ (turn (play_at device (desk_with parent descriptors) slot)).reply
-reply-played device turn parent descriptors slot lent answer there is answered =
-    answered ∙ ap (λ (book : PlayBook). (turn book).reply) (play_at-channel (play_channels parent) slot lent (play_unopened device) there is)
+-- the desk, where the book of the channel was turned, and the reply
+pub turn-played : {B : Type 0} (device : DeviceSeen) (turn : PlayBook → Turn PlayBook) (parent : ParentOf B) (descriptors : Descriptors) (slot : ℕ) (lent new : PlayChannelOf B) (answer : Result Answer Errno)
+    → slot < length (play_channels parent) → lent ≡ get_or (play_channels parent) slot lent → new.book ≡ (turn lent.book).book → answer ≡ (turn lent.book).reply
+    → let turned : Turn PlayBook = turn (play_at device (desk_with parent descriptors) slot) in
+    (desk_with (with_channel parent slot new) descriptors ≡ with_channel_at (desk_with parent descriptors) slot (Playing turned.book)) × (answer ≡ turned.reply)
+turn-played device turn parent descriptors slot lent new answer there is changed answered = (
+  ap (λ (books : List PlayBook). record (desk_with parent descriptors) { play = books }) (play_books_of-set (λ (book : PlayBook). (turn book).book) (play_channels parent) slot lent new (play_unopened device) there is changed),
+  answered ∙ ap (λ (book : PlayBook). (turn book).reply) (play_at-channel (play_channels parent) slot lent (play_unopened device) there is),
+)
 
 -- ---- channels that record
 
-pub desk-recorded : {B : Type 0} (device : DeviceSeen) (turn : RecordBook → Turn RecordBook) (parent : ParentOf B) (descriptors : Descriptors) (slot : ℕ) (lent new : RecordChannelOf B)
-    → slot < length (record_channels parent) → lent ≡ get_or (record_channels parent) slot lent → new.book ≡ (turn lent.book).book
-    → desk_with (with_recorder parent slot new) descriptors ≡ with_channel_at (desk_with parent descriptors) slot (Recording (turn (record_at device (desk_with parent descriptors) slot)).book)
-desk-recorded device turn parent descriptors slot lent new there is changed =
-    ap (λ (recording : List RecordBook). record { play = play_books parent; recording = recording; mapped = map_books parent; descriptors = descriptors.held.value; groups = descriptors.groups; mixer = parent.mixer; handed = parent.handed; mixed = parent.mixed })
-    (record_books_of-set (λ (book : RecordBook). (turn book).book) (record_channels parent) slot lent new (record_unopened device) there is changed)
-
-pub reply-recorded : {B : Type 0} (device : DeviceSeen) (turn : RecordBook → Turn RecordBook) (parent : ParentOf B) (descriptors : Descriptors) (slot : ℕ) (lent : RecordChannelOf B) (answer : Result Answer Errno)
-    → slot < length (record_channels parent) → lent ≡ get_or (record_channels parent) slot lent → answer ≡ (turn lent.book).reply
-    → answer ≡ (turn (record_at device (desk_with parent descriptors) slot)).reply
-reply-recorded device turn parent descriptors slot lent answer there is answered =
-    answered ∙ ap (λ (book : RecordBook). (turn book).reply) (record_at-channel (record_channels parent) slot lent (record_unopened device) there is)
+pub turn-recorded : {B : Type 0} (device : DeviceSeen) (turn : RecordBook → Turn RecordBook) (parent : ParentOf B) (descriptors : Descriptors) (slot : ℕ) (lent new : RecordChannelOf B) (answer : Result Answer Errno)
+    → slot < length (record_channels parent) → lent ≡ get_or (record_channels parent) slot lent → new.book ≡ (turn lent.book).book → answer ≡ (turn lent.book).reply
+    → let turned : Turn RecordBook = turn (record_at device (desk_with parent descriptors) slot) in
+    (desk_with (with_recorder parent slot new) descriptors ≡ with_channel_at (desk_with parent descriptors) slot (Recording turned.book)) × (answer ≡ turned.reply)
+turn-recorded device turn parent descriptors slot lent new answer there is changed answered = (
+  ap (λ (books : List RecordBook). record (desk_with parent descriptors) { recording = books }) (record_books_of-set (λ (book : RecordBook). (turn book).book) (record_channels parent) slot lent new (record_unopened device) there is changed),
+  answered ∙ ap (λ (book : RecordBook). (turn book).reply) (record_at-channel (record_channels parent) slot lent (record_unopened device) there is),
+)
 
 -- ---- mapped channels
 
-pub desk-mapped : {B : Type 0} (device : DeviceSeen) (turn : MapBook → Turn MapBook) (parent : ParentOf B) (descriptors : Descriptors) (slot : ℕ) (lent new : MapChannelOf B)
-    → slot < length (map_channels parent) → lent ≡ get_or (map_channels parent) slot lent → new.book ≡ (turn lent.book).book
-    → desk_with (with_map_channel parent slot new) descriptors ≡ with_channel_at (desk_with parent descriptors) slot (Mapped (turn (map_at device (desk_with parent descriptors) slot)).book)
-desk-mapped device turn parent descriptors slot lent new there is changed =
-    ap (λ (mapped : List MapBook). record { play = play_books parent; recording = record_books parent; mapped = mapped; descriptors = descriptors.held.value; groups = descriptors.groups; mixer = parent.mixer; handed = parent.handed; mixed = parent.mixed })
-    (map_books_of-set (λ (book : MapBook). (turn book).book) (map_channels parent) slot lent new (map_unopened device) there is changed)
-
-pub reply-mapped : {B : Type 0} (device : DeviceSeen) (turn : MapBook → Turn MapBook) (parent : ParentOf B) (descriptors : Descriptors) (slot : ℕ) (lent : MapChannelOf B) (answer : Result Answer Errno)
-    → slot < length (map_channels parent) → lent ≡ get_or (map_channels parent) slot lent → answer ≡ (turn lent.book).reply
-    → answer ≡ (turn (map_at device (desk_with parent descriptors) slot)).reply
-reply-mapped device turn parent descriptors slot lent answer there is answered =
-    answered ∙ ap (λ (book : MapBook). (turn book).reply) (map_at-channel (map_channels parent) slot lent (map_unopened device) there is)
+pub turn-mapped : {B : Type 0} (device : DeviceSeen) (turn : MapBook → Turn MapBook) (parent : ParentOf B) (descriptors : Descriptors) (slot : ℕ) (lent new : MapChannelOf B) (answer : Result Answer Errno)
+    → slot < length (map_channels parent) → lent ≡ get_or (map_channels parent) slot lent → new.book ≡ (turn lent.book).book → answer ≡ (turn lent.book).reply
+    → let turned : Turn MapBook = turn (map_at device (desk_with parent descriptors) slot) in
+    (desk_with (with_map_channel parent slot new) descriptors ≡ with_channel_at (desk_with parent descriptors) slot (Mapped turned.book)) × (answer ≡ turned.reply)
+turn-mapped device turn parent descriptors slot lent new answer there is changed answered = (
+  ap (λ (books : List MapBook). record (desk_with parent descriptors) { mapped = books }) (map_books_of-set (λ (book : MapBook). (turn book).book) (map_channels parent) slot lent new (map_unopened device) there is changed),
+  answered ∙ ap (λ (book : MapBook). (turn book).reply) (map_at-channel (map_channels parent) slot lent (map_unopened device) there is),
+)
 
 -- one that a descriptor holds isn't free
 pub map-unfree : {B : Type 0} (device : DeviceSeen) (parent : ParentOf B) (descriptors : Descriptors) (fd : ℕ) (held : Held) (lent : MapChannelOf B) → HoldApart (desk_with parent descriptors) → held_by (desk_with parent descriptors) fd ≡ Some held → held.way ≡ Map

@@ -27,7 +27,7 @@ use Rattle.pcm_engine.specs.Desks.{channel_asked, desk_with, ioctl_call}
 use Rattle.pcm_engine.proofs.Mapped.{keeps-asked}
 use Rattle.pcm_engine.proofs.Answering.{answers-refusal, leaves-mapped, leaves-played, leaves-recorded, own-served}
 use Rattle.pcm_engine.proofs.Grouping.{handed-on}
-use Rattle.pcm_engine.proofs.Turning.{ask-not, open-there, found-way, desk-mapped, desk-played, desk-recorded, map-there, map-unfree, own-lent, play-there, record-there, reply-mapped, reply-played, reply-recorded, holding-is}
+use Rattle.pcm_engine.proofs.Turning.{ask-not, open-there, found-way, map-there, map-unfree, own-lent, play-there, record-there, turn-mapped, turn-played, turn-recorded, holding-is}
 use Rattle.pcm_engine.proofs.clients.ask.Goals as goal
 
 pub returns-in_err-held : goal.returns-in_err-held
@@ -103,19 +103,16 @@ returns-in-Play g c =
     let lent = c.play.result.now in
     let is = c.play.ensures.value in
     let own = own-lent parent.device (play_channels parent) held.slot lent there is c.requires.able.served.own in
+    let turned = turn-played device (asking device (desk_here device desk) c.args.request) parent c.args.descriptors.now held.slot lent c.ioctl.new.self c.ioctl.result there is
+    (c.ioctl.ensures.book ∙ ap (λ (d : Device). (asking (seen tables d) c.args.here c.args.request lent.book).book) own ∙ ap (λ (here : Here). (asking device here c.args.request lent.book).book) c.requires.able.at)
+    (c.ioctl.ensures.reply ∙ ap (λ (d : Device). (asking (seen tables d) c.args.here c.args.request lent.book).reply) own ∙ ap (λ (here : Here). (asking device here c.args.request lent.book).reply) c.requires.able.at) in
     record {
       silent = ap bytes_due c.ioctl.ensures.reply ∙ ask-silent (play_rate_at (seen tables lent.path.device) lent.book) lent.path.device.mix.rate c.args.here c.args.request lent.book;
       refused = on_err_weaker c.ioctl.result
           (λ same. (parent_same _ parent refl (item-kept parent.channels held.slot c.ioctl.new.self lent (same ∙ is)) refl refl refl refl refl refl refl refl, refl))
           c.ioctl.ensures.refused;
-      desk =
-          desk-played device (asking device (desk_here device desk) c.args.request) parent c.args.descriptors.now held.slot lent c.ioctl.new.self there is
-          (c.ioctl.ensures.book ∙ ap (λ (d : Device). (asking (seen tables d) c.args.here c.args.request lent.book).book) own ∙ ap (λ (here : Here). (asking device here c.args.request lent.book).book) c.requires.able.at)
-          ∙ sym (ap (λ (h : Option Held). (channel_asked device desk c.args.request h).desk) found);
-      reply =
-          reply-played device (asking device (desk_here device desk) c.args.request) parent c.args.descriptors.now held.slot lent c.ioctl.result there is
-          (c.ioctl.ensures.reply ∙ ap (λ (d : Device). (asking (seen tables d) c.args.here c.args.request lent.book).reply) own ∙ ap (λ (here : Here). (asking device here c.args.request lent.book).reply) c.requires.able.at)
-          ∙ sym (ap (λ (h : Option Held). (channel_asked device desk c.args.request h).reply) found);
+      desk = turned.0 ∙ sym (ap (λ (h : Option Held). (channel_asked device desk c.args.request h).desk) found);
+      reply = turned.1 ∙ sym (ap (λ (h : Option Held). (channel_asked device desk c.args.request h).reply) found);
       leaves = leaves-played g.B.Feeder.kind g.B.Feeder.kept tables [] parent held.slot lent c.ioctl.new.self (own-served c.requires.able.served) there is c.ioctl.ensures.device c.ioctl.ensures.moves;
     }
 
@@ -133,17 +130,14 @@ returns-in-Record g c =
     let is = c.recorder.ensures.value in
     let asked = c.ioctl-in-Record.ensures in
     let new = c.ioctl-in-Record.new.self in
+    let turned = turn-recorded device (record_ask c.args.request) parent c.args.descriptors.now held.slot lent new c.ioctl-in-Record.result there is asked.book asked.reply in
     record {
       silent = ap bytes_due asked.reply ∙ record-ask-silent c.args.request lent.book;
       refused = on_err_weaker c.ioctl-in-Record.result
           (λ same. (parent_same _ parent refl refl (item-kept parent.recorders held.slot new lent (same ∙ is)) refl refl refl refl refl refl refl, refl))
           asked.refused;
-      desk =
-          desk-recorded device (record_ask c.args.request) parent c.args.descriptors.now held.slot lent new there is asked.book
-          ∙ sym (ap (λ (h : Option Held). (channel_asked device desk c.args.request h).desk) found);
-      reply =
-          reply-recorded device (record_ask c.args.request) parent c.args.descriptors.now held.slot lent c.ioctl-in-Record.result there is asked.reply
-          ∙ sym (ap (λ (h : Option Held). (channel_asked device desk c.args.request h).reply) found);
+      desk = turned.0 ∙ sym (ap (λ (h : Option Held). (channel_asked device desk c.args.request h).desk) found);
+      reply = turned.1 ∙ sym (ap (λ (h : Option Held). (channel_asked device desk c.args.request h).reply) found);
       leaves = leaves-recorded g.B.Feeder.kind g.B.Feeder.kept tables parent held.slot lent new (own-served c.requires.able.served) there is asked.device asked.moves;
     }
 
@@ -162,17 +156,14 @@ returns-in-Map g c =
     let asked = c.ioctl-in-Map.ensures in
     let new = c.ioctl-in-Map.new.self in
     let unfree = map-unfree device parent c.args.descriptors.now c.args.fd held lent c.requires.apart e c.in-Map.is there is in
+    let turned = turn-mapped device (map_ask c.args.request) parent c.args.descriptors.now held.slot lent new c.ioctl-in-Map.result there is asked.book asked.reply in
     record {
       silent = ap bytes_due asked.reply ∙ map-asked-silent c.args.request lent.book;
       refused = on_err_weaker c.ioctl-in-Map.result
           (λ same. (parent_same _ parent refl refl refl (item-kept parent.maps held.slot new lent (same ∙ is)) refl refl refl refl refl refl, refl))
           asked.refused;
-      desk =
-          desk-mapped device (map_ask c.args.request) parent c.args.descriptors.now held.slot lent new there is asked.book
-          ∙ sym (ap (λ (h : Option Held). (channel_asked device desk c.args.request h).desk) found);
-      reply =
-          reply-mapped device (map_ask c.args.request) parent c.args.descriptors.now held.slot lent c.ioctl-in-Map.result there is asked.reply
-          ∙ sym (ap (λ (h : Option Held). (channel_asked device desk c.args.request h).reply) found);
+      desk = turned.0 ∙ sym (ap (λ (h : Option Held). (channel_asked device desk c.args.request h).desk) found);
+      reply = turned.1 ∙ sym (ap (λ (h : Option Held). (channel_asked device desk c.args.request h).reply) found);
       leaves =
           leaves-mapped g.B.Feeder.kind g.B.Feeder.kept tables parent held.slot lent new (own-served c.requires.able.served) there is asked.device
           (keeps-asked g.B.Feeder.kind g.B.Feeder.kept tables 0 lent new unfree asked.area asked.moves);

@@ -1,4 +1,4 @@
-use Rattle.std.proofs.Common.{rules, ◌<◌, [], length, Ok, sym, ap, ◌∙◌, subst, arith}
+use Rattle.std.proofs.Common.{rules, refl, ◌<◌, [], length, Ok, sym, ap, ◌∙◌, subst, arith}
 use Rattle.pcm_fixed.proofs.Items.{items-count}
 use Rattle.pcm_feeder.specs.Racks.{HaveKinds}
 use Rattle.pcm_chain.specs.Chains.{boxes_in}
@@ -21,7 +21,7 @@ use Rattle.pcm_vchan.specs.Parents.{map_channels, play_channels, record_channels
 use Rattle.pcm_engine.specs.Desks.{closed_held, desk_with}
 use Rattle.pcm_engine.proofs.Answering.{leaves-mapped, leaves-played, leaves-recorded, own-closable}
 use Rattle.pcm_engine.proofs.Mapped.{keeps-closed}
-use Rattle.pcm_engine.proofs.Turning.{channel_of, desk-mapped, desk-played, desk-recorded, own-lent}
+use Rattle.pcm_engine.proofs.Turning.{channel_of, own-lent, turn-mapped, turn-played, turn-recorded}
 use Rattle.pcm_engine.proofs.clients.close_channel.Goals as goal
 
 pub close-requires-in-Record : goal.close-requires-in-Record
@@ -54,8 +54,8 @@ returns-in-Play g c =
           let device = seen filters parent.device in
           let own = own-lent parent.device (play_channels parent) slot lent there is c.requires.closable.own in
           let desk : Desk = desk_with parent descriptors in
-          desk-played device (λ (book : PlayBook). record { book = closing device (desk_here device desk) book; reply = Ok Done }) parent descriptors slot lent new there is
-          (c.close.ensures.book filters (subst (IsPlayServed filters) (sym is) (ready slot lent there).planned) ∙ ap (λ (d : Device). closing (seen filters d) c.args.here lent.book) own ∙ ap (λ (here : Here). closing device here lent.book) at)
+          (turn-played device (λ (book : PlayBook). record { book = closing device (desk_here device desk) book; reply = Ok Done }) parent descriptors slot lent new (Ok Done) there is
+          (c.close.ensures.book filters (subst (IsPlayServed filters) (sym is) (ready slot lent there).planned) ∙ ap (λ (d : Device). closing (seen filters d) c.args.here lent.book) own ∙ ap (λ (here : Here). closing device here lent.book) at) refl).0
           ∙ sym (ap (λ (w : Way). closed_held device desk (channel_of w slot)) c.in-Play.is);
     }
 
@@ -74,7 +74,7 @@ returns-in-Record g c =
       leaves = λ filters. leaves-recorded g.B.Feeder.kind g.B.Feeder.kept filters parent slot lent new (own-closable c.requires.closable) there is closes.device (closes.moves filters);
       desk = λ filters descriptors ready at.
           let device = seen filters parent.device in
-          desk-recorded device (λ (book : RecordBook). record { book = closed book; reply = Ok Done }) parent descriptors slot lent new there is closes.book
+          (turn-recorded device (λ (book : RecordBook). record { book = closed book; reply = Ok Done }) parent descriptors slot lent new (Ok Done) there is closes.book refl).0
           ∙ sym (ap (λ (w : Way). closed_held device (desk_with parent descriptors) (channel_of w slot)) c.in-Record.is);
     }
 
@@ -95,6 +95,6 @@ returns-in-Map g c =
           (keeps-closed g.B.Feeder.kind g.B.Feeder.kept filters 0 lent new closes.book closes.area (closes.moves filters));
       desk = λ filters descriptors ready at.
           let device = seen filters parent.device in
-          desk-mapped device (λ (book : MapBook). record { book = map_closed book; reply = Ok Done }) parent descriptors slot lent new there is closes.book
+          (turn-mapped device (λ (book : MapBook). record { book = map_closed book; reply = Ok Done }) parent descriptors slot lent new (Ok Done) there is closes.book refl).0
           ∙ sym (ap (λ (w : Way). closed_held device (desk_with parent descriptors) (channel_of w slot)) c.in-Map.is);
     }

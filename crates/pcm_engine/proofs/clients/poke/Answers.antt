@@ -1,6 +1,7 @@
 use Rattle.std.proofs.Common.{Option, length, refl, sym, ap, ◌∙◌, arith}
 use Rattle.std.proofs.lemmas.Result.{on_err_weaker}
 use Rattle.pcm_fixed.proofs.Items.{item-kept, items-count}
+use Rattle.pcm_feeder.specs.Filters.{Filters}
 use Rattle.pcm_oss.specs.declared.event.Event.TheVariants.{Poke}
 use Rattle.pcm_oss.specs.declared.event.Way.TheVariants.{Map}
 use Rattle.pcm_desk.specs.declared.device.Held.{Held}
@@ -14,7 +15,7 @@ use Rattle.pcm_vchan.proofs.Channels.{parent_same}
 use Rattle.pcm_vchan.specs.Parents.{map_channels}
 use Rattle.pcm_engine.specs.Desks.{desk_with, poke_call}
 use Rattle.pcm_engine.proofs.Mapped.{each-poked, each-unpoked}
-use Rattle.pcm_engine.proofs.Turning.{desk-mapped, map-found, slot-is, reply-mapped, poke-refused, unmapped}
+use Rattle.pcm_engine.proofs.Turning.{map-found, slot-is, turn-mapped, poke-refused, unmapped}
 use Rattle.pcm_engine.proofs.Answering.{leaves-mapping, leaves-written, output-same, refuses-turn}
 use Rattle.pcm_engine.proofs.Grouping.{handed-on}
 use Rattle.pcm_engine.proofs.clients.poke.Goals as goal
@@ -36,18 +37,15 @@ returns g c =
     let there = map-found parent c.args.descriptors.now c.args.fd slot c.requires.apart found in
     let lent = c.mapped.result.now in
     let is = c.mapped.ensures.value in
+    let turned = λ (filters : Filters). turn-mapped (seen filters parent.device) (poke_turn c.args.offset count) parent c.args.descriptors.now slot lent c.poke.new.self c.poke.result there is c.poke.ensures.book c.poke.ensures.reply in
     record {
       silent = ap bytes_due c.poke.ensures.reply ∙ poke-silent c.args.offset count lent.book;
       refused = on_err_weaker c.poke.result
           (λ same. parent_same _ parent refl refl refl (item-kept parent.maps slot c.poke.new.self lent (same ∙ is)) refl refl refl refl refl refl)
           c.poke.ensures.refused;
       turn = record {
-        desk = λ filters.
-            desk-mapped (seen filters parent.device) (poke_turn c.args.offset count) parent c.args.descriptors.now slot lent c.poke.new.self there is c.poke.ensures.book
-            ∙ sym (ap (λ (found : Option Held). (channel_turn (seen filters parent.device) desk (Poke c.args.fd c.args.offset 0 count) found).desk) e);
-        reply = λ filters.
-            reply-mapped (seen filters parent.device) (poke_turn c.args.offset count) parent c.args.descriptors.now slot lent c.poke.result there is c.poke.ensures.reply
-            ∙ sym (ap (λ (found : Option Held). (channel_turn (seen filters parent.device) desk (Poke c.args.fd c.args.offset 0 count) found).reply) e);
+        desk = λ filters. (turned filters).0 ∙ sym (ap (λ (h : Option Held). (channel_turn (seen filters parent.device) desk (Poke c.args.fd c.args.offset 0 count) h).desk) e);
+        reply = λ filters. (turned filters).1 ∙ sym (ap (λ (h : Option Held). (channel_turn (seen filters parent.device) desk (Poke c.args.fd c.args.offset 0 count) h).reply) e);
       };
       leaves = λ filters.
           leaves-written g.B.Feeder.kind g.B.Feeder.kept filters _ parent slot lent c.poke.new.self c.requires.own there is c.poke.ensures.device

@@ -1,6 +1,7 @@
 use Rattle.std.proofs.Common.{rules, [], Option, length, take, drop, refl, sym, ap, ◌∙◌, subst, arith}
 use Rattle.std.proofs.lemmas.Result.{on_err_weaker}
 use Rattle.pcm_fixed.proofs.Items.{item-kept, items-count}
+use Rattle.pcm_feeder.specs.Filters.{Filters}
 use Rattle.pcm_oss.specs.declared.event.Event.TheVariants.{Read}
 use Rattle.pcm_oss.specs.declared.event.Way.TheVariants.{Record}
 use Rattle.pcm_desk.specs.declared.device.Held.{Held}
@@ -13,7 +14,7 @@ use Rattle.pcm_record.specs.Channels.{RecordStands}
 use Rattle.pcm_vchan.proofs.Channels.{parent_same, record_at-channel}
 use Rattle.pcm_oss.specs.Replies.{bytes_due}
 use Rattle.pcm_engine.specs.Desks.{desk_with, read_call}
-use Rattle.pcm_engine.proofs.Turning.{bytes_read-held, channel_of, desk-recorded, read-refused, record-found, reply-recorded, slot-is}
+use Rattle.pcm_engine.proofs.Turning.{bytes_read-held, channel_of, read-refused, record-found, slot-is, turn-recorded}
 use Rattle.pcm_engine.proofs.Answering.{leaves-nothing, leaves-recorded, refuses-turn}
 use Rattle.pcm_engine.proofs.Grouping.{handed-on}
 use Rattle.pcm_vchan.specs.Parents.{record_channels}
@@ -36,17 +37,14 @@ returns g c =
     let there = record-found parent c.args.descriptors.now c.args.fd slot c.requires.apart found in
     let lent = c.recorder.result.now in
     let is = c.recorder.ensures.value in
+    let turned = λ (filters : Filters). turn-recorded (seen filters parent.device) (read_turn n) parent c.args.descriptors.now slot lent c.read.new.self c.read.result there is c.read.ensures.book c.read.ensures.reply in
     record {
       refused = on_err_weaker c.read.result
           (λ same. parent_same _ parent refl refl (item-kept parent.recorders slot c.read.new.self lent (same ∙ is)) refl refl refl refl refl refl refl)
           c.read.ensures.refused;
       turn = record {
-        desk = λ filters.
-            desk-recorded (seen filters parent.device) (read_turn n) parent c.args.descriptors.now slot lent c.read.new.self there is c.read.ensures.book
-            ∙ sym (ap (λ (found : Option Held). (channel_turn (seen filters parent.device) desk (Read c.args.fd n) found).desk) e);
-        reply = λ filters.
-            reply-recorded (seen filters parent.device) (read_turn n) parent c.args.descriptors.now slot lent c.read.result there is c.read.ensures.reply
-            ∙ sym (ap (λ (found : Option Held). (channel_turn (seen filters parent.device) desk (Read c.args.fd n) found).reply) e);
+        desk = λ filters. (turned filters).0 ∙ sym (ap (λ (h : Option Held). (channel_turn (seen filters parent.device) desk (Read c.args.fd n) h).desk) e);
+        reply = λ filters. (turned filters).1 ∙ sym (ap (λ (h : Option Held). (channel_turn (seen filters parent.device) desk (Read c.args.fd n) h).reply) e);
       };
       within = search rules;
       length = search rules;

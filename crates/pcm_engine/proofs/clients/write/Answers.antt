@@ -1,6 +1,7 @@
 use Rattle.std.proofs.Common.{◌+◌, ◌<◌, Option, length, refl, sym, ap, ◌∙◌, subst, arith}
 use Rattle.std.proofs.lemmas.Result.{on_err_weaker}
 use Rattle.pcm_fixed.proofs.Items.{item-kept, items-count}
+use Rattle.pcm_feeder.specs.Filters.{Filters}
 use Rattle.pcm_oss.specs.declared.event.Event.TheVariants.{Write}
 use Rattle.pcm_oss.specs.declared.event.Way.TheVariants.{Play}
 use Rattle.pcm_wave.specs.declared.pool.Source.TheVariants.{Inline}
@@ -13,8 +14,8 @@ use Rattle.pcm_desk.proofs.Silent.{write-silent}
 use Rattle.pcm_play.specs.declared.channel.PlayChannelOf.{PlayChannelOf}
 use Rattle.pcm_vchan.proofs.Channels.{parent_same}
 use Rattle.pcm_oss.specs.Replies.{bytes_due}
-use Rattle.pcm_engine.specs.Desks.{desk_with, write_call}
-use Rattle.pcm_engine.proofs.Turning.{desk-played, play-found, reply-played, slot-is, write-refused}
+use Rattle.pcm_engine.specs.Desks.{desk_with, write_call, IsAt}
+use Rattle.pcm_engine.proofs.Turning.{play-found, slot-is, turn-played, write-refused}
 use Rattle.pcm_engine.proofs.Answering.{leaves-nothing, leaves-played, refuses-turn}
 use Rattle.pcm_engine.proofs.Grouping.{handed-on}
 use Rattle.pcm_engine.proofs.clients.write.Goals as goal
@@ -42,22 +43,17 @@ returns g c =
     let there = play-found parent c.args.descriptors.now c.args.fd slot c.requires.apart found in
     let lent = c.play.result.now in
     let is = c.play.ensures.value in
+    let turned = λ (filters : Filters) (at : IsAt filters c.args.here parent).
+    turn-played (seen filters parent.device) (write_turn (desk_here (seen filters parent.device) desk) count) parent c.args.descriptors.now slot lent c.write.new.self c.write.result there is
+    (c.write.ensures.book ∙ ap (λ (here : Here). (write_turn here count lent.book).book) at) (c.write.ensures.reply ∙ ap (λ (here : Here). (write_turn here count lent.book).reply) at) in
     record {
       silent = ap bytes_due c.write.ensures.reply ∙ write-silent c.args.here count lent.book;
       refused = on_err_weaker c.write.result
           (λ same. parent_same _ parent refl (item-kept parent.channels slot c.write.new.self lent (same ∙ is)) refl refl refl refl refl refl refl refl)
           c.write.ensures.refused;
       turn = record {
-        desk = λ filters at.
-            let device = seen filters parent.device in
-            desk-played device (write_turn (desk_here device desk) count) parent c.args.descriptors.now slot lent c.write.new.self there is
-            (c.write.ensures.book ∙ ap (λ (here : Here). (write_turn here count lent.book).book) at)
-            ∙ sym (ap (λ (found : Option Held). (channel_turn device desk (Write c.args.fd Inline 0 count) found).desk) e);
-        reply = λ filters at.
-            let device = seen filters parent.device in
-            reply-played device (write_turn (desk_here device desk) count) parent c.args.descriptors.now slot lent c.write.result there is
-            (c.write.ensures.reply ∙ ap (λ (here : Here). (write_turn here count lent.book).reply) at)
-            ∙ sym (ap (λ (found : Option Held). (channel_turn device desk (Write c.args.fd Inline 0 count) found).reply) e);
+        desk = λ filters at. (turned filters at).0 ∙ sym (ap (λ (h : Option Held). (channel_turn (seen filters parent.device) desk (Write c.args.fd Inline 0 count) h).desk) e);
+        reply = λ filters at. (turned filters at).1 ∙ sym (ap (λ (h : Option Held). (channel_turn (seen filters parent.device) desk (Write c.args.fd Inline 0 count) h).reply) e);
       };
       leaves = λ filters.
           leaves-played g.B.Feeder.kind g.B.Feeder.kept filters c.args.bytes.now parent slot lent c.write.new.self c.requires.own there is c.write.ensures.device (c.write.ensures.moves filters);

@@ -8,7 +8,7 @@ use Rattle.pcm_vchan.specs.Parents.{EachCaptures}
 use Rattle.pcm_engine.specs.Desks.{desk_with}
 use Rattle.pcm_engine.specs.Engines.{samples_most}
 use Rattle.pcm_engine.specs.Invariants.{AreOwn}
-use Rattle.pcm_engine.proofs.Applying.{accepted, applied-answer, applied-call, applied-interrupt, applied-mixer, order-after, own-mixed}
+use Rattle.pcm_engine.proofs.Applying.{accepted, applied-answer, applied-at, applied-call, applied-mixer, order-after, own-mixed}
 use Rattle.pcm_engine.proofs.Applying.{samples-sized}
 use Rattle.pcm_engine.proofs.Desks.{desk-interrupted}
 use Rattle.pcm_engine.proofs.InOrder.{bytes-counted, can-be-asked, closable, due, few-mixed, here-seen, served}
@@ -20,7 +20,8 @@ use Rattle.pcm_engine.proofs.engine.EngineOf.apply.Goals as goal
 pub returns-in-Open-clause-applied : goal.returns-in-Open-clause-applied
 returns-in-Open-clause-applied g c =
     let a = c.open.ensures in
-    applied-answer c.in-Open.is tt c.requires.ready.bus c.tell.ensures.kept a.refused a.desk a.reply a.leaves
+    applied-at c.args.self.now c.in-Open.is
+    (applied-answer _ tt c.requires.ready.bus c.tell.ensures.kept a.refused a.desk a.reply a.leaves)
 
 pub invariant_of-self-clause-order : goal.invariant_of-self-clause-order
 invariant_of-self-clause-order g c =
@@ -30,7 +31,8 @@ invariant_of-self-clause-order g c =
 pub returns-in-Ioctl-clause-applied : goal.returns-in-Ioctl-clause-applied
 returns-in-Ioctl-clause-applied g c =
     let a = c.ioctl.ensures in
-    applied-answer c.in-Ioctl.is tt c.requires.ready.bus c.tell-in-Ioctl.ensures.kept a.refused a.desk a.reply a.leaves
+    applied-at c.args.self.now c.in-Ioctl.is
+    (applied-answer _ tt c.requires.ready.bus c.tell-in-Ioctl.ensures.kept a.refused a.desk a.reply a.leaves)
 
 pub invariant_of-self-in-Ioctl-clause-order : goal.invariant_of-self-in-Ioctl-clause-order
 invariant_of-self-in-Ioctl-clause-order g c =
@@ -40,7 +42,8 @@ invariant_of-self-in-Ioctl-clause-order g c =
 pub returns-in-Join-clause-applied : goal.returns-in-Join-clause-applied
 returns-in-Join-clause-applied g c =
     let a = c.join.ensures in
-    applied-answer c.in-Join.is tt c.requires.ready.bus c.tell-in-Join.ensures.kept a.refused a.desk a.reply a.leaves
+    applied-at c.args.self.now c.in-Join.is
+    (applied-answer _ tt c.requires.ready.bus c.tell-in-Join.ensures.kept a.refused a.desk a.reply a.leaves)
 
 pub invariant_of-self-in-Join-clause-order : goal.invariant_of-self-in-Join-clause-order
 invariant_of-self-in-Join-clause-order g c =
@@ -50,7 +53,8 @@ invariant_of-self-in-Join-clause-order g c =
 pub returns-in-StartGroup-clause-applied : goal.returns-in-StartGroup-clause-applied
 returns-in-StartGroup-clause-applied g c =
     let a = c.start_group.ensures in
-    applied-answer c.in-StartGroup.is tt c.requires.ready.bus c.tell-in-StartGroup.ensures.kept a.refused a.desk a.reply a.leaves
+    applied-at c.args.self.now c.in-StartGroup.is
+    (applied-answer _ tt c.requires.ready.bus c.tell-in-StartGroup.ensures.kept a.refused a.desk a.reply a.leaves)
 
 pub invariant_of-self-in-StartGroup-clause-order : goal.invariant_of-self-in-StartGroup-clause-order
 invariant_of-self-in-StartGroup-clause-order g c =
@@ -66,7 +70,8 @@ returns-in-Close-clause-applied g c =
     let leaves = closed.leaves old.tables in
     let here = c.here-here.ensures ∙ here-seen g.B.Feeder.kept old c.requires.ready.bus in
     let desk = closed.desk old.tables c.requires.ready.playing here in
-    applied-answer c.in-Close.is tt c.requires.ready.bus c.tell-in-Close.ensures.kept closed.refused desk (closed.reply old.tables) leaves
+    applied-at old c.in-Close.is
+    (applied-answer _ tt c.requires.ready.bus c.tell-in-Close.ensures.kept closed.refused desk (closed.reply old.tables) leaves)
 
 pub invariant_of-self-in-Close : goal.invariant_of-self-in-Close
 invariant_of-self-in-Close g c =
@@ -88,8 +93,8 @@ returns-in-Write-clause-applied g c =
     let here = c.here-here.ensures ∙ here-seen g.B.Feeder.kept old c.requires.ready.bus in
     let turn = write-turn c.in-Write.fd _ (rw c.in-Write.is at c.requires.bytes) c.write.ensures.turn in
     let refused = on_err_weaker c.write.result (λ same. (same, refl)) c.write.ensures.refused in
-    applied-answer c.in-Write.is tt c.requires.ready.bus c.tell-in-Write.ensures.kept
-    refused (turn.desk old.tables here) (turn.reply old.tables here) leaves
+    applied-at old c.in-Write.is (applied-answer _ tt c.requires.ready.bus c.tell-in-Write.ensures.kept
+    refused (turn.desk old.tables here) (turn.reply old.tables here) leaves)
 
 pub invariant_of-self-in-Write : goal.invariant_of-self-in-Write
 invariant_of-self-in-Write g c =
@@ -109,8 +114,8 @@ returns-in-Poke-clause-applied g c =
     let leaves = c.poke.ensures.leaves old.tables in
     let turn = poke-turn c.in-Poke.fd c.in-Poke.offset _ (rw c.in-Poke.is at c.requires.bytes) c.poke.ensures.turn in
     let refused = on_err_weaker c.poke.result (λ same. (same, refl)) c.poke.ensures.refused in
-    applied-answer c.in-Poke.is tt c.requires.ready.bus c.tell-in-Poke.ensures.kept
-    refused (turn.desk old.tables) (turn.reply old.tables) leaves
+    applied-at old c.in-Poke.is (applied-answer _ tt c.requires.ready.bus c.tell-in-Poke.ensures.kept
+    refused (turn.desk old.tables) (turn.reply old.tables) leaves)
 
 pub invariant_of-self-in-Poke : goal.invariant_of-self-in-Poke
 invariant_of-self-in-Poke g c =
@@ -128,12 +133,12 @@ returns-in-Read-clause-applied g c =
     let old = c.args.self.now in
     let read = c.answer_read.ensures in
     let leaves = read.leaves old.tables in
-    applied-call c.in-Read.is tt c.requires.ready.bus leaves (record {
+    applied-at old c.in-Read.is (applied-call _ tt c.requires.ready.bus leaves (record {
       desk = read.turn.desk old.tables;
       result = read.turn.reply old.tables;
       refused = λ err. (read.refused err, refl);
       answered = read.bytes old.tables;
-    })
+    }))
 
 pub invariant_of-self-in-Read : goal.invariant_of-self-in-Read
 invariant_of-self-in-Read g c =
@@ -150,9 +155,10 @@ invariant_of-self-in-Read g c =
 
 pub returns-in-Mixer-clause-applied : goal.returns-in-Mixer-clause-applied
 returns-in-Mixer-clause-applied g c =
-    let own = c.args.self.now.order.own in
+    let old = c.args.self.now in
     let asked = c.ask_mixer.ensures in
-    applied-mixer c.in-Mixer.is own c.requires.ready.bus c.tell-in-Mixer.ensures.kept asked.refused asked.parent asked.reply
+    applied-at old c.in-Mixer.is
+    (applied-mixer c.in-Mixer.request old.order.own c.requires.ready.bus c.tell-in-Mixer.ensures.kept asked.refused asked.parent asked.reply)
 
 pub invariant_of-self-in-Mixer-clause-order : goal.invariant_of-self-in-Mixer-clause-order
 invariant_of-self-in-Mixer-clause-order g c =
@@ -172,7 +178,7 @@ returns-in-Intr-clause-applied g c =
     let told = c.keep.ensures in
     let Hears : List ℤ → Type 0 = λ samples.
     EachCaptures g.B.Feeder.kind g.B.Feeder.kept old.tables n (take (samples_most old (Intr n)) samples) old.parent new in
-    applied-interrupt old c.in-Intr.is (record {
+    applied-at old c.in-Intr.is (record {
       rules = record {
         desk = desk-interrupted g.B.Feeder.kind g.B.Feeder.kept old.tables n _ old.parent new old.descriptors
             made.slots made.recorders_slots made.maps_slots made.books made.recorders made.maps made.mixer made.handed made.mixed;
