@@ -67,6 +67,11 @@ use Rattle.pcm_oss.specs.declared.reply.Errno.{Errno}
 
 -- ---- books that play
 
+-- what holds of both holds of either
+either : {X : Type 0} (P : X → Type 0) (b : Bool) (x y : X) → P x → P y → P (cond b x y)
+either P true x y px py = px
+either P false x y px py = py
+
 -- what counts as much as a book before keeps the pace of as many frames
 paced : (mixed : ℕ) (old new : PlayBook) → new.done ≡ old.done → new.given ≡ old.given → PlayKeepsPace mixed old → PlayKeepsPace mixed new
 paced mixed old new done given p = record { played = (let before = p.played in omega (arith, done, given, before)) }
@@ -114,12 +119,11 @@ settled_at (Draining closed) rate passed mixed book near p =
     over_in (is_over rate passed draining) rate passed mixed (cond closed Free Setup) draining near refl p
 settled_at state rate passed mixed book near p = p
 
-drained_primed : (b : Bool) (mixed at : ℕ) (book : PlayBook) → PlayKeepsPace mixed book → PlayKeepsPace mixed (cond b (started_at at (Draining false) book) (play_emptied Setup book))
-drained_primed true mixed at book p = paced mixed book (started_at at (Draining false) book) refl refl p
-drained_primed false mixed at book p = rests mixed book (play_emptied Setup book) (omega arith) refl p
-
 drained_at : (state : PlayState) (rate : Rate) (here : Here) (mixed : ℕ) (book : PlayBook) → IsNear rate → PlayKeepsPace mixed (record book { state = state }) → PlayKeepsPace mixed (drained_in rate here state (record book { state = state }))
-drained_at Primed rate here mixed book near p = drained_primed (nat_lt 0 (frames_written book)) mixed here.mixed (record book { state = Primed }) p
+drained_at Primed rate here mixed book near p =
+    let started : PlayBook = started_at here.mixed (Draining false) (record book { state = Primed }) in
+    let emptied : PlayBook = play_emptied Setup (record book { state = Primed }) in
+    either (PlayKeepsPace mixed) (nat_lt 0 (frames_written book)) started emptied (paced mixed (record book { state = Primed }) started refl refl p) (rests mixed (record book { state = Primed }) emptied (omega arith) refl p)
 drained_at Running rate here mixed book near p =
     settled_at (Draining false) rate here.passed mixed book near (paced mixed (record book { state = Running }) (record book { state = Draining false }) refl refl p)
 drained_at state rate here mixed book near p = p
@@ -153,10 +157,6 @@ accepting_at Primed at mixed accepted book p =
     started_pace (more.opening.trigger && nat_le (fragment_bytes more.opening) (play_fill_of more)) at mixed more (paced mixed book more refl refl p)
 accepting_at state at mixed accepted book p = paced mixed book (accepting at accepted (record book { state = state })) refl refl p
 
-either : {X : Type 0} (P : X → Type 0) (b : Bool) (x y : X) → P x → P y → P (cond b x y)
-either P true x y px py = px
-either P false x y px py = py
-
 write_pace : (here : Here) (mixed length : ℕ) (book : PlayBook) → PlayKeepsPace mixed book → PlayKeepsPace mixed (write_turn here length book).book
 write_pace here mixed length book p =
     let Paces : Turn PlayBook → Type 0 = λ turn. PlayKeepsPace mixed turn.book in
@@ -166,12 +166,10 @@ write_pace here mixed length book p =
     (either Paces (nat_lt 0 length && eqb (play_free_of book) 0) (refused Again book) taken p (accepting_at book.state here.mixed mixed accepted book p))
 
 -- a request
-roused_primed : (b : Bool) (at mixed : ℕ) (book : PlayBook) → PlayKeepsPace mixed book → PlayKeepsPace mixed (cond b (started_at at Running book) book)
-roused_primed true at mixed book p = paced mixed book (started_at at Running book) refl refl p
-roused_primed false at mixed book p = p
-
 roused_at : (state : PlayState) (at mixed : ℕ) (book : PlayBook) → PlayKeepsPace mixed (record book { state = state }) → PlayKeepsPace mixed (play_roused_in at state (record book { state = state }))
-roused_at Primed at mixed book p = roused_primed (nat_lt 0 (frames_written book)) at mixed (record book { state = Primed }) p
+roused_at Primed at mixed book p =
+    let primed : PlayBook = record book { state = Primed } in
+    either (PlayKeepsPace mixed) (nat_lt 0 (frames_written book)) (started_at at Running primed) primed (paced mixed primed (started_at at Running primed) refl refl p) p
 roused_at state at mixed book p = p
 
 dropped_pace : (mixed : ℕ) (book : PlayBook) → PlayKeepsPace mixed (play_dropped book)

@@ -266,19 +266,16 @@ shut-none (Some held) ok = cc
 pub slot-found : (way : Way) (slots : ℕ) (least : Option ℕ) (told : ℕ) → slot_or_busy (slot_number slots way) least ≡ Ok told
     → (least ≡ Some (slot_place slots way told)) × (slot_number slots way (slot_place slots way told) ≡ told)
 slot-found way slots None told e = cc
-slot-found Play slots (Some place) told e = (ap (λ (r : Result ℕ Errno). Some (slot_in r)) e, refl)
-slot-found Record slots (Some place) told e = (ap (λ (r : Result ℕ Errno). Some (slot_in r)) e, refl)
 slot-found Map slots (Some place) told e =
     let same : slots + place ≡ told = ap slot_in e in
     let back : place ≡ told - slots = omega arith in
     (ap Some back, omega (arith, same))
+slot-found way slots (Some place) told e = (ap (λ (r : Result ℕ Errno). Some (slot_in r)) e, refl)
 
 -- it is numbered after those that play, where it is mapped
 pub told-behind : (way : Way) (slots : ℕ) (least : Option ℕ) (told : ℕ) → slot_or_busy (slot_number slots way) least ≡ Ok told → way ≡ Map → slots ≤ told
-told-behind way slots None told e is = cc
-told-behind Play slots (Some place) told e is = cc
-told-behind Record slots (Some place) told e is = cc
 told-behind Map slots (Some place) told e is = let same : slots + place ≡ told = ap slot_in e in omega arith
+told-behind way slots least told e is = cc
 
 -- what an open makes of a desk
 open_found : (way : Way) (desk : Desk) (fd : ℕ) (settings : Settings) (slot : ℕ) → held_by desk fd ≡ None → least_free desk way ≡ Some slot → open_at desk fd way settings (Some slot) ≡ open_turn desk fd way settings

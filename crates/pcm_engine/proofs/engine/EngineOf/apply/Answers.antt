@@ -157,8 +157,9 @@ pub returns-in-Mixer-clause-applied : goal.returns-in-Mixer-clause-applied
 returns-in-Mixer-clause-applied g c =
     let old = c.args.self.now in
     let asked = c.ask_mixer.ensures in
+    let told = c.tell-in-Mixer.ensures.kept in
     applied-at old c.in-Mixer.is
-    (applied-mixer c.in-Mixer.request old.order.own c.requires.ready.bus c.tell-in-Mixer.ensures.kept asked.refused asked.parent asked.reply)
+    (applied-mixer c.in-Mixer.request old.order.own c.requires.ready.bus told asked.refused asked.parent asked.reply)
 
 pub invariant_of-self-in-Mixer-clause-order : goal.invariant_of-self-in-Mixer-clause-order
 invariant_of-self-in-Mixer-clause-order g c =
