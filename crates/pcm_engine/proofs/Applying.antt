@@ -29,7 +29,7 @@ use Rattle.pcm_engine.specs.declared.limits.TheConstants.{LIFE}
 use Rattle.pcm_engine.specs.Answered.{LeavesParent}
 use Rattle.pcm_engine.specs.Applied.{Applied, FollowsRules}
 use Rattle.pcm_engine.specs.Brought.{IsAllowed}
-use Rattle.pcm_engine.specs.Desks.{ChangesBy, RepliesBy, desk_with}
+use Rattle.pcm_engine.specs.Desks.{ChangesBy, RepliesBy, desk_with, turn_on}
 use Rattle.pcm_engine.specs.Engines.{AreReady, desk_of, device_of, samples_at_hand}
 use Rattle.pcm_engine.specs.Invariants.{PartsInOrder, AreOwn}
 use Rattle.pcm_engine.specs.Life.{KeepsPace}
@@ -106,7 +106,7 @@ refusal (Err errno) err holds = holds
 
 alone : {B : Type 0} (kept : B → Kept) (filters : Filters) (call : Event) (old : ParentOf B) (before : Descriptors) (new : ParentOf B) (left : Descriptors) (result : Result Answer Errno) (told : Reply)
     → IsTold call → told ≡ record { result = result; bytes = [] } → (IsErr result → (new ≡ old) × (left ≡ before))
-    → ChangesBy filters (λ device desk. after device desk call) old before new left → RepliesBy filters (λ device desk. after device desk call) old before result → FollowsRules kept filters call old before new left told
+    → ChangesBy filters (turn_on call) old before new left → RepliesBy filters (turn_on call) old before result → FollowsRules kept filters call old before new left told
 alone kept filters call old before new left result told tells is refused desk reply =
     let same = ap (λ (r : Reply). r.result) is in
     record {
@@ -118,7 +118,7 @@ alone kept filters call old before new left result told tells is refused desk re
 
 pub applied-answer : {B : Type 0} {kind : B → Kind} {kept : B → Kept} {filters : Filters} (call : Event) {bytes : List ℕ} {samples : List ℤ} {old : ParentOf B} {before : Descriptors} {new : ParentOf B} {left : Descriptors} {result : Result Answer Errno} {told : Reply}
     → IsTold call → HasBus kept (seen filters old.device) old → told ≡ record { result = result; bytes = [] } → OnErr result ((new ≡ old) × (left ≡ before))
-    → ChangesBy filters (λ device desk. after device desk call) old before new left → RepliesBy filters (λ device desk. after device desk call) old before result
+    → ChangesBy filters (turn_on call) old before new left → RepliesBy filters (turn_on call) old before result
     → LeavesParent kind kept filters (bytes_moved bytes call) (area_written bytes (desk_with old before) call) old new → Applied kind kept filters call bytes samples old before new left told
 applied-answer {B} {kind} {kept} {filters} call {bytes} {samples} {old} {before} {new} {left} {result} {told} tells has kept_is refused desk reply leaves =
     applied-call call (told_calls call tells) has leaves (alone kept filters call old before new left result told tells kept_is (λ err. refusal result err refused) desk reply)

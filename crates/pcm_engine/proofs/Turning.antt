@@ -38,13 +38,14 @@ use Rattle.pcm_vchan.proofs.Channels.{map_books_of-set, play_books_of-set, recor
 use Rattle.pcm_engine.specs.declared.descriptors.Descriptors.{Descriptors}
 use Rattle.pcm_engine.specs.Descriptors.{holding, is_way, shut, slot_of}
 use Rattle.pcm_desk.specs.declared.here.Here.{Here}
-use Rattle.pcm_engine.specs.Desks.{desk_with, channel_asked, closed_held, poke_call, write_call, TakesTurn, TakesTurnAt}
+use Rattle.pcm_engine.specs.Desks.{desk_with, channel_asked, closed_held, turn_on, TakesTurn, TakesTurnAt}
 use Rattle.pcm_engine.specs.Steps.{bytes_read, channel_read}
 use Rattle.pcm_desk.proofs.Channels.{put-again}
 use Rattle.pcm_oss.specs.declared.event.Event.{Event}
 use Rattle.pcm_oss.specs.declared.event.Event.TheVariants.{Close, Poke, Read, Write}
 use Rattle.pcm_oss.specs.declared.request.Request.{Request}
 use Rattle.pcm_wave.specs.declared.pool.Source.{Source}
+use Rattle.pcm_wave.specs.declared.pool.Source.TheVariants.{Inline}
 
 -- ---- where a descriptor's channel is
 
@@ -128,13 +129,13 @@ read-refused device desk fd count found errno = refused_by device desk (Read fd 
     other way slot is = refuses device desk (channel_of way slot)
 
 -- of the bytes of a write and a poke only their number counts
-pub write-turn : {B : Type 0} {here : Here} {old new : ParentOf B} {descriptors : Descriptors} {result : Result Answer Errno} (fd : ℕ) (bytes : List ℕ) {count : ℕ} → length bytes ≡ count → TakesTurnAt here (write_call fd (length bytes)) old new descriptors result
-    → TakesTurnAt here (write_call fd count) old new descriptors result
-write-turn {B} {here} {old} {new} {descriptors} {result} fd bytes long turn = subst (λ (n : ℕ). TakesTurnAt here (write_call fd n) old new descriptors result) long turn
+pub write-turn : {B : Type 0} {here : Here} {old new : ParentOf B} {descriptors : Descriptors} {result : Result Answer Errno} (fd : ℕ) (bytes : List ℕ) {count : ℕ} → length bytes ≡ count → TakesTurnAt here (turn_on (Write fd Inline 0 (length bytes))) old new descriptors result
+    → TakesTurnAt here (turn_on (Write fd Inline 0 count)) old new descriptors result
+write-turn {B} {here} {old} {new} {descriptors} {result} fd bytes long turn = subst (λ (n : ℕ). TakesTurnAt here (turn_on (Write fd Inline 0 n)) old new descriptors result) long turn
 
-pub poke-turn : {B : Type 0} {old new : ParentOf B} {descriptors : Descriptors} {result : Result Answer Errno} (fd offset : ℕ) (bytes : List ℕ) {count : ℕ} → length bytes ≡ count → TakesTurn (poke_call fd offset (length bytes)) old new descriptors result
-    → TakesTurn (poke_call fd offset count) old new descriptors result
-poke-turn {B} {old} {new} {descriptors} {result} fd offset bytes long turn = subst (λ (n : ℕ). TakesTurn (poke_call fd offset n) old new descriptors result) long turn
+pub poke-turn : {B : Type 0} {old new : ParentOf B} {descriptors : Descriptors} {result : Result Answer Errno} (fd offset : ℕ) (bytes : List ℕ) {count : ℕ} → length bytes ≡ count → TakesTurn (turn_on (Poke fd offset 0 (length bytes))) old new descriptors result
+    → TakesTurn (turn_on (Poke fd offset 0 count)) old new descriptors result
+poke-turn {B} {old} {new} {descriptors} {result} fd offset bytes long turn = subst (λ (n : ℕ). TakesTurn (turn_on (Poke fd offset 0 n)) old new descriptors result) long turn
 
 -- ---- the slots of a parent
 

@@ -1,18 +1,16 @@
--- What a parent and descriptors are to the rules: a desk. And what a call of a client makes of it, which is an event.
+-- What a parent and descriptors are to the rules: a desk. And what a call of a client makes of it.
 use Rattle.std.specs.Prelude.{◌≡◌, ℕ, List, All, Option, None, Some, Result, slice_set, take}
-use Rattle.pcm_format.specs.declared.settings.Settings.{Settings}
 use Rattle.pcm_format.specs.Frames.{Frame}
 use Rattle.pcm_feeder.specs.declared.kind.Kind.{Kind}
 use Rattle.pcm_feeder.specs.Filters.{Filters}
 use Rattle.pcm_feeder.specs.Kept.{Kept}
-use Rattle.pcm_oss.specs.declared.event.Event.TheVariants.{Close, Ioctl, Join, Open, Poke, Read, StartGroup, Write}
-use Rattle.pcm_oss.specs.declared.event.Way.{Way}
+use Rattle.pcm_oss.specs.declared.event.Event.{Event}
+use Rattle.pcm_oss.specs.declared.event.Event.TheVariants.{Close}
 use Rattle.pcm_oss.specs.declared.reply.Answer.{Answer}
 use Rattle.pcm_oss.specs.declared.reply.Errno.{Errno}
 use Rattle.pcm_oss.specs.declared.reply.Errno.TheVariants.{BadF}
 use Rattle.pcm_oss.specs.declared.request.Request.{Request}
 use Rattle.pcm_oss.specs.Replies.{bytes_due}
-use Rattle.pcm_wave.specs.declared.pool.Source.TheVariants.{Inline}
 use Rattle.pcm_desk.specs.declared.device.Held.{Held}
 use Rattle.pcm_desk.specs.declared.here.Here.{Here}
 use Rattle.pcm_desk.specs.Device.{DeviceSeen, here_at, seen}
@@ -43,38 +41,11 @@ desk_with parent descriptors = record {
 abbrev pub with_held : Descriptors → ℕ → Option Held → Descriptors
 with_held descriptors fd held = record descriptors { held = record descriptors.held { value = slice_set descriptors.held.value fd held } }
 
--- ---- the events that calls stand for
+-- ---- turns of a desk
 
--- an open of a way with settings
-abbrev pub open_call : ℕ → Way → Settings → DeviceSeen → Desk → DeskTurn
-open_call fd way settings device desk = after device desk (Open fd way settings)
-
--- a write of this many bytes
-abbrev pub write_call : ℕ → ℕ → DeviceSeen → Desk → DeskTurn
-write_call fd count device desk = after device desk (Write fd Inline 0 count)
-
--- a poke of this many, from an offset on
-abbrev pub poke_call : ℕ → ℕ → ℕ → DeviceSeen → Desk → DeskTurn
-poke_call fd offset count device desk = after device desk (Poke fd offset 0 count)
-
--- a read of at most this many
-abbrev pub read_call : ℕ → ℕ → DeviceSeen → Desk → DeskTurn
-read_call fd count device desk = after device desk (Read fd count)
-
--- a request
-abbrev pub request_call : ℕ → Request → DeviceSeen → Desk → DeskTurn
-request_call fd request device desk = after device desk (Ioctl fd request)
-
--- a join of a group, and the start of one
-abbrev pub join_call : ℕ → ℕ → DeviceSeen → Desk → DeskTurn
-join_call fd group device desk = after device desk (Join fd group)
-
-abbrev pub start_call : ℕ → ℕ → DeviceSeen → Desk → DeskTurn
-start_call fd group device desk = after device desk (StartGroup fd group)
-
--- a close
-abbrev pub close_call : ℕ → DeviceSeen → Desk → DeskTurn
-close_call fd device desk = after device desk (Close fd)
+-- the one that the rules make on an event
+abbrev pub turn_on : Event → DeviceSeen → Desk → DeskTurn
+turn_on event device desk = after device desk event
 
 -- a request of the channel alone, as of one of no group
 abbrev pub channel_asked : DeviceSeen → Desk → Request → Option Held → DeskTurn
@@ -128,7 +99,7 @@ pub record TakesTurn {B : Type 0} (turn : DeviceSeen → Desk → DeskTurn) (old
 -- a close shuts a descriptor, by whichever filters the channels are ready, and the mix and the device are here
 abbrev pub Closes : {B : Type 0} → (B → Kind) → (B → Kept) → Here → ℕ → ParentOf B → Descriptors → ParentOf B → Descriptors → Type 0
 Closes kind kept here fd old descriptors new shut = (filters : Filters) → All (IsPlayReady kind kept filters) (play_channels old) → IsAt filters here old
-    → desk_with new shut ≡ (close_call fd (seen filters old.device) (desk_with old descriptors)).desk
+    → desk_with new shut ≡ (after (seen filters old.device) (desk_with old descriptors) (Close fd)).desk
 
 -- so it is of the channel alone, whatever the descriptors are
 abbrev pub ClosesHeld : {B : Type 0} → (B → Kind) → (B → Kept) → Here → Held → ParentOf B → ParentOf B → Type 0

@@ -5,8 +5,10 @@ ghost use Rattle.std.specs.Prelude.{◌≡◌, ◌+◌, ◌^◌, ◌<◌, ◌≤
 ghost use Rattle.pcm_fixed.specs.Fixed.{fixed_len};
 ghost use Rattle.pcm_feeder.specs.Filters.{Filters};
 ghost use Rattle.pcm_feeder.specs.Limits.{IsRate};
+ghost use Rattle.pcm_oss.specs.declared.event.Event.TheVariants.{Open, Write, Poke, Read, Close};
 ghost use Rattle.pcm_oss.specs.declared.event.Way.TheVariants.{Play, Record, Map};
 ghost use Rattle.pcm_oss.specs.Replies.{bytes_due};
+ghost use Rattle.pcm_wave.specs.declared.pool.Source.TheVariants.{Inline};
 ghost use Rattle.pcm_oss.specs.declared.reply.TheConstants.{REPLY_BYTES};
 ghost use Rattle.pcm_desk.specs.declared.limits.TheConstants.{DESCRIPTORS, READ_BYTES};
 ghost use Rattle.pcm_desk.specs.Own.{HoldApart};
@@ -14,7 +16,7 @@ ghost use Rattle.pcm_vchan.specs.Lending.{LendsMapAt};
 ghost use Rattle.pcm_vchan.specs.Parents.{map_channels, play_channels, untouched, AreClosable, AreServed, TotalsFit};
 ghost use Rattle.pcm_engine.specs.Answered.{AnswersBy, CanBeAsked, LeavesParent};
 ghost use Rattle.pcm_engine.specs.Invariants.{AreOwn};
-ghost use Rattle.pcm_engine.specs.Desks.{front_due, close_call, desk_with, ioctl_call, open_call, poke_call, read_call, write_call, Closes, ClosesHeld, ReadsKept, Replies, TakesTurn, TakesTurnAt};
+ghost use Rattle.pcm_engine.specs.Desks.{front_due, desk_with, turn_on, ioctl_call, Closes, ClosesHeld, ReadsKept, Replies, TakesTurn, TakesTurnAt};
 ghost use Rattle.pcm_engine.specs.Steps.{poked_by};
 
 use crate::descriptors::Descriptors;
@@ -37,7 +39,7 @@ pub fn open<B: Feeder>(
     requires fd { fd < DESCRIPTORS }
     requires rate { IsRate settings.rate }
     requires served { AreServed B.kind B.kept tables.now parent.old }
-    ensures { AnswersBy B.kind B.kept tables.now (open_call fd way settings)
+    ensures { AnswersBy B.kind B.kept tables.now (turn_on (Open fd way settings))
         parent.old descriptors.old parent.new descriptors.new result }
 {
     descriptors.shut(fd)?;
@@ -61,7 +63,7 @@ pub fn write<B: Feeder>(
     requires count { All (λ c. c.book.written + length bytes.now < 2 ^ 64) (play_channels parent.old) }
     ensures silent { bytes_due result ≡ 0 }
     ensures refused { OnErr result (parent.new ≡ parent.old) }
-    ensures turn { TakesTurnAt here (write_call fd (length bytes.now)) parent.old parent.new descriptors.now result }
+    ensures turn { TakesTurnAt here (turn_on (Write fd Inline 0 (length bytes.now))) parent.old parent.new descriptors.now result }
     ensures leaves { (filters : Filters) → LeavesParent B.kind B.kept filters bytes.now untouched parent.old parent.new }
 {
     let slot = descriptors.slot_of(fd, Way::Play)?;
@@ -81,7 +83,7 @@ pub fn poke<B: Feeder>(
     requires own { AreOwn parent.old }
     ensures silent { bytes_due result ≡ 0 }
     ensures refused { OnErr result (parent.new ≡ parent.old) }
-    ensures turn { TakesTurn (poke_call fd offset (length bytes.now)) parent.old parent.new descriptors.now result }
+    ensures turn { TakesTurn (turn_on (Poke fd offset 0 (length bytes.now))) parent.old parent.new descriptors.now result }
     ensures leaves { (filters : Filters) → LeavesParent B.kind B.kept filters []
         (poked_by fd offset bytes.now (desk_with parent.old descriptors.now)) parent.old parent.new }
 {
@@ -100,7 +102,7 @@ fn read<B: Feeder>(
     requires apart { HoldApart (desk_with parent.old descriptors.now) }
     requires own { AreOwn parent.old }
     ensures refused { OnErr result (parent.new ≡ parent.old) }
-    ensures turn { TakesTurn (read_call fd (length out.old)) parent.old parent.new descriptors.now result }
+    ensures turn { TakesTurn (turn_on (Read fd (length out.old))) parent.old parent.new descriptors.now result }
     ensures within { bytes_due result ≤ length out.old }
     ensures length { length out.new ≡ length out.old }
     ensures bytes { ReadsKept B.kept parent.old descriptors.now fd (length out.old) (front_due result out.new) }
@@ -126,7 +128,7 @@ pub fn answer_read<B: Feeder>(
     requires apart { HoldApart (desk_with parent.old descriptors.now) }
     requires own { AreOwn parent.old }
     ensures refused { IsErr reply.new.result → parent.new ≡ parent.old }
-    ensures turn { TakesTurn (read_call fd len) parent.old parent.new descriptors.now reply.new.result }
+    ensures turn { TakesTurn (turn_on (Read fd len)) parent.old parent.new descriptors.now reply.new.result }
     ensures bytes { ReadsKept B.kept parent.old descriptors.now fd len reply.new.bytes }
     ensures leaves { (filters : Filters) → LeavesParent B.kind B.kept filters [] untouched parent.old parent.new }
 {
@@ -172,7 +174,7 @@ pub fn close<B: Feeder>(
     ensures leaves { (filters : Filters) → LeavesParent B.kind B.kept filters [] untouched parent.old parent.new }
     ensures refused { OnErr result ((parent.new ≡ parent.old) × (descriptors.new ≡ descriptors.old)) }
     ensures desk { Closes B.kind B.kept here fd parent.old descriptors.old parent.new descriptors.new }
-    ensures reply { Replies (close_call fd) parent.old descriptors.old result }
+    ensures reply { Replies (turn_on (Close fd)) parent.old descriptors.old result }
 {
     let held = descriptors.holding(fd)?;
     let answer = close_channel(parent, held, here);

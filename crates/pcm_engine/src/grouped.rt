@@ -2,6 +2,7 @@
 
 ghost use Rattle.std.specs.Prelude.{◌≡◌, ◌<◌};
 ghost use Rattle.pcm_fixed.specs.Fixed.{fixed_len};
+ghost use Rattle.pcm_oss.specs.declared.event.Event.TheVariants.{Ioctl, Join, StartGroup};
 ghost use Rattle.pcm_oss.specs.declared.event.Way.TheVariants.{Play, Record, Map};
 ghost use Rattle.pcm_desk.specs.declared.limits.TheConstants.{DESCRIPTORS};
 ghost use Rattle.pcm_desk.specs.Channels.{rests};
@@ -10,7 +11,7 @@ ghost use Rattle.pcm_desk.specs.Own.{HoldApart};
 ghost use Rattle.pcm_desk.specs.Device.{DeviceSeen};
 ghost use Rattle.pcm_engine.specs.declared.descriptors.Descriptors.{Descriptors};
 ghost use Rattle.pcm_engine.specs.Answered.{AnswersBy, CanBeAsked};
-ghost use Rattle.pcm_engine.specs.Desks.{desk_with, join_call, request_call, start_call};
+ghost use Rattle.pcm_engine.specs.Desks.{desk_with, turn_on};
 
 use crate::clients::ask;
 use crate::descriptors::Descriptors;
@@ -32,7 +33,7 @@ pub fn ioctl<B: Feeder>(
     requires fd { fd < DESCRIPTORS }
     requires apart { HoldApart (desk_with parent.old descriptors.old) }
     requires able { CanBeAsked B.kind B.kept tables.now here parent.old }
-    ensures { AnswersBy B.kind B.kept tables.now (request_call fd request)
+    ensures { AnswersBy B.kind B.kept tables.now (turn_on (Ioctl fd request))
         parent.old descriptors.old parent.new descriptors.new result }
 {
     let held = descriptors.holding(fd)?;
@@ -55,7 +56,7 @@ pub fn join<B: Feeder>(
     requires fd { fd < DESCRIPTORS }
     requires apart { HoldApart (desk_with parent.old descriptors.old) }
     requires able { CanBeAsked B.kind B.kept tables.now here parent.old }
-    ensures { AnswersBy B.kind B.kept tables.now (join_call fd group)
+    ensures { AnswersBy B.kind B.kept tables.now (turn_on (Join fd group))
         parent.old descriptors.old parent.new descriptors.new result }
 {
     let held = descriptors.holding(fd)?;
@@ -88,7 +89,7 @@ pub fn start_group<B: Feeder>(
 ) -> Result<Answer, Errno>
     requires fd { fd < DESCRIPTORS }
     requires able { CanBeAsked B.kind B.kept tables.now here parent.old }
-    ensures { AnswersBy B.kind B.kept tables.now (start_call fd group)
+    ensures { AnswersBy B.kind B.kept tables.now (turn_on (StartGroup fd group))
         parent.old descriptors.old parent.new descriptors.new result }
 {
     let held = descriptors.holding(fd)?;

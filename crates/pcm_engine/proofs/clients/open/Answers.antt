@@ -1,9 +1,10 @@
 use Rattle.std.proofs.Common.{rules, ℕ, Some, ◌≤◌, refl, sym, ap, ◌∙◌, subst}
 use Rattle.std.specs.Prelude.{IsOk}
+use Rattle.pcm_oss.specs.declared.event.Event.TheVariants.{Open}
 use Rattle.pcm_desk.specs.declared.device.Device.{Device}
 use Rattle.pcm_desk.specs.Desk.{held_by}
 use Rattle.pcm_vchan.specs.Slots.{slot_place}
-use Rattle.pcm_engine.specs.Desks.{desk_with, open_call, with_held}
+use Rattle.pcm_engine.specs.Desks.{desk_with, with_held, turn_on}
 use Rattle.pcm_engine.proofs.Answering.{answers-nothing, own-served}
 use Rattle.pcm_engine.proofs.Opening.{leaves-opened, opened-behind, opened-reply, opened-turn, Opens}
 use Rattle.pcm_engine.proofs.Turning.{shut-none}
@@ -11,7 +12,7 @@ use Rattle.pcm_engine.proofs.clients.open.Goals as goal
 
 pub returns-in_err-shut : goal.returns-in_err-shut
 returns-in_err-shut g c =
-    answers-nothing g.B.Feeder.kind g.B.Feeder.kept c.args.tables.now (open_call c.args.fd c.args.way c.args.settings) c.args.parent.now c.args.descriptors.now _ c.requires.served (search rules) (search rules) (search rules)
+    answers-nothing g.B.Feeder.kind g.B.Feeder.kept c.args.tables.now (turn_on (Open c.args.fd c.args.way c.args.settings)) c.args.parent.now c.args.descriptors.now _ c.requires.served (search rules) (search rules) (search rules)
 
 pub returns-in_err-number : goal.returns-in_err-number
 returns-in_err-number g c =

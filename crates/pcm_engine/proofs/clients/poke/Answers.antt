@@ -13,7 +13,7 @@ use Rattle.pcm_desk.proofs.Refused.{poke-kept}
 use Rattle.pcm_desk.proofs.Silent.{poke-silent}
 use Rattle.pcm_vchan.proofs.Channels.{parent_same}
 use Rattle.pcm_vchan.specs.Parents.{map_channels}
-use Rattle.pcm_engine.specs.Desks.{desk_with, poke_call}
+use Rattle.pcm_engine.specs.Desks.{desk_with, turn_on}
 use Rattle.pcm_engine.proofs.Mapped.{each-poked, each-unpoked}
 use Rattle.pcm_engine.proofs.Turning.{map-found, slot-is, turn-mapped, poke-refused, unmapped}
 use Rattle.pcm_engine.proofs.Answering.{leaves-mapping, leaves-written, output-same, refuses-turn}
@@ -65,6 +65,6 @@ returns-in_err-slot-clause-turn g c =
     let desk = desk_with c.args.parent.now c.args.descriptors.now in
     let n = length c.args.bytes.now in
     let errno = c.in_err-slot.field-0.0 in
-    refuses-turn (poke_call c.args.fd c.args.offset n) c.args.parent.now c.args.descriptors.now _ errno
+    refuses-turn (turn_on (Poke c.args.fd c.args.offset 0 n)) c.args.parent.now c.args.descriptors.now _ errno
     (λ device. poke-refused device desk c.args.fd c.args.offset 0 n (held_by desk c.args.fd) errno (sym c.slot_of.ensures ∙ c.in_err-slot.was))
     (handed-on c.from_residual.result errno c.from_residual.ensures.0 c.from_residual.ensures.1)

@@ -13,7 +13,7 @@ use Rattle.pcm_record.specs.declared.channel.RecordChannelOf.{RecordChannelOf}
 use Rattle.pcm_record.specs.Channels.{RecordStands}
 use Rattle.pcm_vchan.proofs.Channels.{parent_same, record_at-channel}
 use Rattle.pcm_oss.specs.Replies.{bytes_due}
-use Rattle.pcm_engine.specs.Desks.{desk_with, read_call}
+use Rattle.pcm_engine.specs.Desks.{desk_with, turn_on}
 use Rattle.pcm_engine.proofs.Turning.{bytes_read-held, channel_of, read-refused, record-found, slot-is, turn-recorded}
 use Rattle.pcm_engine.proofs.Answering.{leaves-nothing, leaves-recorded, refuses-turn}
 use Rattle.pcm_engine.proofs.Grouping.{handed-on}
@@ -65,6 +65,6 @@ returns-in_err-slot-clause-turn g c =
     let desk = desk_with c.args.parent.now c.args.descriptors.now in
     let n = length c.args.out.now in
     let errno = c.in_err-slot.field-0.0 in
-    refuses-turn (read_call c.args.fd n) c.args.parent.now c.args.descriptors.now _ errno
+    refuses-turn (turn_on (Read c.args.fd n)) c.args.parent.now c.args.descriptors.now _ errno
     (λ device. read-refused device desk c.args.fd n (held_by desk c.args.fd) errno (sym c.slot_of.ensures ∙ c.in_err-slot.was))
     (handed-on c.from_residual.result errno c.from_residual.ensures.0 c.from_residual.ensures.1)

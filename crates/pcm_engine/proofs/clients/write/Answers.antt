@@ -14,7 +14,7 @@ use Rattle.pcm_desk.proofs.Silent.{write-silent}
 use Rattle.pcm_play.specs.declared.channel.PlayChannelOf.{PlayChannelOf}
 use Rattle.pcm_vchan.proofs.Channels.{parent_same}
 use Rattle.pcm_oss.specs.Replies.{bytes_due}
-use Rattle.pcm_engine.specs.Desks.{desk_with, write_call, IsAt}
+use Rattle.pcm_engine.specs.Desks.{desk_with, IsAt, turn_on}
 use Rattle.pcm_engine.proofs.Turning.{play-found, slot-is, turn-played, write-refused}
 use Rattle.pcm_engine.proofs.Answering.{leaves-nothing, leaves-played, refuses-turn}
 use Rattle.pcm_engine.proofs.Grouping.{handed-on}
@@ -67,7 +67,7 @@ returns-in_err-slot-clause-turn g c =
     let desk = desk_with c.args.parent.now c.args.descriptors.now in
     let n = length c.args.bytes.now in
     let errno = c.in_err-slot.field-0.0 in
-    let turn = refuses-turn (write_call c.args.fd n) c.args.parent.now c.args.descriptors.now _ errno
+    let turn = refuses-turn (turn_on (Write c.args.fd Inline 0 n)) c.args.parent.now c.args.descriptors.now _ errno
     (λ device. write-refused device desk c.args.fd Inline 0 n (held_by desk c.args.fd) errno (sym c.slot_of.ensures ∙ c.in_err-slot.was))
     (handed-on c.from_residual.result errno c.from_residual.ensures.0 c.from_residual.ensures.1) in
     record { desk = λ filters at. turn.desk filters; reply = λ filters at. turn.reply filters }

@@ -5,7 +5,7 @@ use Rattle.pcm_desk.specs.Desk.{DeskTurn, held_by}
 use Rattle.pcm_desk.specs.Own.{HoldApart}
 use Rattle.pcm_desk.proofs.Apart.{regrouped}
 use Rattle.pcm_engine.specs.declared.descriptors.Descriptors.{Descriptors}
-use Rattle.pcm_engine.specs.Desks.{channel_asked, desk_with, request_call}
+use Rattle.pcm_engine.specs.Desks.{channel_asked, desk_with, turn_on}
 use Rattle.pcm_engine.proofs.Answering.{answers-refusal}
 use Rattle.pcm_engine.proofs.Grouping.{handed-on, request-asks, request-refused}
 use Rattle.pcm_engine.proofs.Turning.{holding-is, holding-not, open-few}
@@ -15,7 +15,7 @@ pub returns-in_err-held : goal.returns-in_err-held
 returns-in_err-held g c =
     let desk = desk_with c.args.parent.now c.args.descriptors.now in
     let errno = c.in_err-held.field-0.0 in
-    answers-refusal g.B.Feeder.kind g.B.Feeder.kept c.args.tables.now (request_call c.args.fd c.args.request) c.args.parent.now c.args.descriptors.now _ errno c.requires.able.served
+    answers-refusal g.B.Feeder.kind g.B.Feeder.kept c.args.tables.now (turn_on (Ioctl c.args.fd c.args.request)) c.args.parent.now c.args.descriptors.now _ errno c.requires.able.served
     (holding-not (seen c.args.tables.now c.args.parent.now.device) desk (Ioctl c.args.fd c.args.request) (held_by desk c.args.fd) errno (sym c.holding.ensures ∙ c.in_err-held.was))
     (handed-on c.from_residual.result errno c.from_residual.ensures.0 c.from_residual.ensures.1)
 
@@ -27,7 +27,7 @@ returns-in-Some g c =
     let desk = desk_with c.args.parent.now c.args.descriptors.now in
     let held = c.in_ok-held.held in
     let e = holding-is (held_by desk c.args.fd) held (sym c.holding.ensures ∙ c.in_ok-held.was) in
-    answers-refusal g.B.Feeder.kind g.B.Feeder.kept c.args.tables.now (request_call c.args.fd c.args.request) c.args.parent.now c.args.descriptors.now _ c.in-Some.errno c.requires.able.served
+    answers-refusal g.B.Feeder.kind g.B.Feeder.kept c.args.tables.now (turn_on (Ioctl c.args.fd c.args.request)) c.args.parent.now c.args.descriptors.now _ c.in-Some.errno c.requires.able.served
     (request-refused (seen c.args.tables.now c.args.parent.now.device) desk c.args.fd c.args.request (held_by desk c.args.fd) held c.in-Some.errno e (sym c.refusal.ensures ∙ c.in-Some.is)) refl
 
 pub leave_by-requires : goal.leave_by-requires

@@ -9,7 +9,7 @@ use Rattle.pcm_desk.specs.declared.device.Held.{Held}
 use Rattle.pcm_desk.specs.Device.{seen}
 use Rattle.pcm_desk.specs.Desk.{Desk, DeskTurn, held_by}
 use Rattle.pcm_engine.specs.declared.descriptors.Descriptors.{Descriptors}
-use Rattle.pcm_engine.specs.Desks.{channel_asked, desk_with, join_call}
+use Rattle.pcm_engine.specs.Desks.{channel_asked, desk_with, turn_on}
 use Rattle.pcm_engine.proofs.Answering.{answers-refusal}
 use Rattle.pcm_engine.proofs.Grouping.{handed-on, join-busy, join-done, join-refused}
 use Rattle.pcm_engine.proofs.Turning.{holding-is, holding-not, open-few, open-there}
@@ -19,7 +19,7 @@ pub returns-in_err-held : goal.returns-in_err-held
 returns-in_err-held g c =
     let desk = desk_with c.args.parent.now c.args.descriptors.now in
     let errno = c.in_err-held.field-0.0 in
-    answers-refusal g.B.Feeder.kind g.B.Feeder.kept c.args.tables.now (join_call c.args.fd c.args.group) c.args.parent.now c.args.descriptors.now _ errno c.requires.able.served
+    answers-refusal g.B.Feeder.kind g.B.Feeder.kept c.args.tables.now (turn_on (Join c.args.fd c.args.group)) c.args.parent.now c.args.descriptors.now _ errno c.requires.able.served
     (holding-not (seen c.args.tables.now c.args.parent.now.device) desk (Join c.args.fd c.args.group) (held_by desk c.args.fd) errno (sym c.holding.ensures ∙ c.in_err-held.was))
     (handed-on c.from_residual.result errno c.from_residual.ensures.0 c.from_residual.ensures.1)
 
@@ -33,7 +33,7 @@ returns-in_err-number g c =
     let errno = c.in_err-number.field-0.0 in
     let e = holding-is (held_by desk c.args.fd) held (sym c.holding.ensures ∙ c.in_ok-held.was) in
     let answer = ap (λ (groups : Groups). joining groups held.way held.slot c.args.group) (sym c.groups-groups.ensures) ∙ sym c.join.ensures.answer ∙ c.in_err-number.was in
-    answers-refusal g.B.Feeder.kind g.B.Feeder.kept c.args.tables.now (join_call c.args.fd c.args.group) c.args.parent.now c.args.descriptors.now _ errno c.requires.able.served
+    answers-refusal g.B.Feeder.kind g.B.Feeder.kept c.args.tables.now (turn_on (Join c.args.fd c.args.group)) c.args.parent.now c.args.descriptors.now _ errno c.requires.able.served
     (join-refused (seen c.args.tables.now c.args.parent.now.device) desk c.args.fd (held_by desk c.args.fd) held c.args.group errno e answer)
     (handed-on c.from_residual-in_err-number.result errno c.from_residual-in_err-number.ensures.0 c.from_residual-in_err-number.ensures.1)
 
@@ -50,7 +50,7 @@ returns-then-not-is_at_rest g c =
     let e = holding-is (held_by desk c.args.fd) held (sym c.holding.ensures ∙ c.in_ok-held.was) in
     let answer = ap (λ (groups : Groups). joining groups held.way held.slot c.args.group) (sym c.groups-groups.ensures) ∙ sym c.join.ensures.answer ∙ c.in_ok-number.was in
     let moving = sym (c.is_at_rest.ensures device c.args.descriptors.now) ∙ c.if-not-is_at_rest.true in
-    answers-refusal g.B.Feeder.kind g.B.Feeder.kept c.args.tables.now (join_call c.args.fd c.args.group) c.args.parent.now c.args.descriptors.now _ Busy c.requires.able.served
+    answers-refusal g.B.Feeder.kind g.B.Feeder.kept c.args.tables.now (turn_on (Join c.args.fd c.args.group)) c.args.parent.now c.args.descriptors.now _ Busy c.requires.able.served
     (join-busy device desk c.args.fd (held_by desk c.args.fd) held c.args.group c.in_ok-number.number e answer moving) refl
 
 pub returns : goal.returns

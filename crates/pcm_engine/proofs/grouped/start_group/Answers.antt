@@ -1,4 +1,5 @@
 use Rattle.std.proofs.Common.{rules, sym, ap, ◌∙◌}
+use Rattle.pcm_oss.specs.declared.event.Event.TheVariants.{StartGroup}
 use Rattle.pcm_group.specs.declared.sync_groups.Groups.{Groups}
 use Rattle.pcm_group.specs.Groups.{all_in, change_in, dissolved, is_used}
 use Rattle.pcm_desk.specs.declared.here.Here.{Here}
@@ -11,7 +12,7 @@ use Rattle.pcm_fixed.specs.Fixed.{fixed_items}
 use Rattle.pcm_map.specs.declared.channel.MapChannelOf.{MapChannelOf}
 use Rattle.pcm_bus.specs.Slots.{map_books_of}
 use Rattle.pcm_vchan.specs.Parents.{play_books, record_books}
-use Rattle.pcm_engine.specs.Desks.{desk_with, start_call}
+use Rattle.pcm_engine.specs.Desks.{desk_with, turn_on}
 use Rattle.pcm_engine.proofs.Answering.{answers-nothing, map-own, map-stay}
 use Rattle.pcm_engine.proofs.Grouping.{start-done}
 use Rattle.pcm_engine.proofs.Opening.{rebooked}
@@ -20,11 +21,11 @@ use Rattle.pcm_engine.proofs.grouped.start_group.Goals as goal
 
 pub returns-in_err-held : goal.returns-in_err-held
 returns-in_err-held g c =
-    answers-nothing g.B.Feeder.kind g.B.Feeder.kept c.args.tables.now (start_call c.args.fd c.args.group) c.args.parent.now c.args.descriptors.now _ c.requires.able.served (search rules) (search rules) (search rules)
+    answers-nothing g.B.Feeder.kind g.B.Feeder.kept c.args.tables.now (turn_on (StartGroup c.args.fd c.args.group)) c.args.parent.now c.args.descriptors.now _ c.requires.able.served (search rules) (search rules) (search rules)
 
 pub returns-then-not-is_group_ready : goal.returns-then-not-is_group_ready
 returns-then-not-is_group_ready g c =
-    answers-nothing g.B.Feeder.kind g.B.Feeder.kept c.args.tables.now (start_call c.args.fd c.args.group) c.args.parent.now c.args.descriptors.now _ c.requires.able.served (search rules) (search rules) (search rules)
+    answers-nothing g.B.Feeder.kind g.B.Feeder.kept c.args.tables.now (turn_on (StartGroup c.args.fd c.args.group)) c.args.parent.now c.args.descriptors.now _ c.requires.able.served (search rules) (search rules) (search rules)
 
 pub returns : goal.returns
 returns g c =
@@ -65,4 +66,4 @@ returns g c =
 
 pub returns-then-not-may_join : goal.returns-then-not-may_join
 returns-then-not-may_join g c =
-    answers-nothing g.B.Feeder.kind g.B.Feeder.kept c.args.tables.now (start_call c.args.fd c.args.group) c.args.parent.now c.args.descriptors.now _ c.requires.able.served (search rules) (search rules) (search rules)
+    answers-nothing g.B.Feeder.kind g.B.Feeder.kept c.args.tables.now (turn_on (StartGroup c.args.fd c.args.group)) c.args.parent.now c.args.descriptors.now _ c.requires.able.served (search rules) (search rules) (search rules)
