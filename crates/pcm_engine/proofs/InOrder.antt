@@ -1,8 +1,8 @@
 -- The books of a ready engine are in order, and no ring passes its size: its channels and its parent carry it.
-use Rattle.std.proofs.Common.{◌≡◌, ℕ, ◌+◌, ◌<◌, ◌≤◌, ◌^◌, List, length, get_or, inl, inr, map, refl, sym, ap, ◌∙◌, subst, arith}
+use Rattle.std.proofs.Common.{◌≡◌, ℕ, ◌+◌, ◌<◌, ◌≤◌, ◌^◌, List, length, get_or, map, refl, sym, ap, ◌∙◌, subst, arith}
 use Rattle.std.specs.Prelude.{All}
-use Rattle.std.proofs.lemmas.Bool.{cases_lt}
-use Rattle.std.proofs.lemmas.List.{get_or-map, get_or_past, length-map}
+use Rattle.std.proofs.lemmas.List.Elements.{All-map}
+use Rattle.std.proofs.lemmas.List.{get_or-map, length-map}
 use Rattle.pcm_oss.proofs.Limits.{usual-fragments}
 use Rattle.pcm_feeder.specs.declared.kind.Kind.{Kind}
 use Rattle.pcm_feeder.specs.Filters.{Filters}
@@ -37,7 +37,6 @@ use Rattle.pcm_map.specs.Channels.{IsMapReady}
 use Rattle.pcm_map.proofs.Books as maps
 use Rattle.pcm_bus.specs.Slots.{MapAreOf, PlayAreOf, map_books_of, play_books_of}
 use Rattle.pcm_vchan.specs.Slots.{RecordAreOf, record_books_of}
-use Rattle.pcm_bus.proofs.Channels.{some_channel}
 use Rattle.pcm_vchan.specs.Parents.{mixed_in, AreClosable, AreDue, AreServed, HasBus, here_of, map_channels, play_channels, record_channels}
 use Rattle.pcm_engine.specs.declared.engine.EngineOf.{EngineOf}
 use Rattle.pcm_engine.specs.Life.{MapKeepsPace, PlayKeepsPace, RecordKeepsPace}
@@ -45,7 +44,7 @@ use Rattle.pcm_engine.specs.Answered.{CanBeAsked}
 use Rattle.pcm_record.proofs.Capturing.{capture-fits}
 use Rattle.pcm_engine.proofs.Buses.{mixes-few}
 use Rattle.pcm_engine.proofs.Fitting.{bytes-few, counts-fit, mixed-few, taken-few}
-use Rattle.pcm_engine.proofs.Pace.{ReliesOn, near-rate}
+use Rattle.pcm_engine.proofs.Pace.{ReliesOn, at-slot, near-rate}
 use Rattle.pcm_engine.specs.Engines.{AreReady, BooksAreHere, RingsHold, desk_of, device_of}
 
 -- ---- the book of each slot
@@ -61,11 +60,7 @@ IsMapSafe device book = MapIsSafe (map_rate_at device book) book
 
 -- what holds of the book of each channel, and of one that nobody has opened, holds of each slot
 each_book : {X Book : Type 0} (book : X → Book) (holds : Book → Type 0) (channels : List X) (slot : ℕ) (none : Book) → All (λ (channel : X). holds (book channel)) channels → holds none → holds (get_or (map book channels) slot none)
-each_book {X} book holds channels slot none each unopened =
-    elim (cases_lt slot (length channels)) [
-      | inl there ↦ (let some : X = some_channel channels slot there in subst holds (sym (get_or-map book channels slot some none there)) (each slot some there))
-      | inr past ↦ subst holds (sym (get_or_past (map book channels) slot none (omega (arith, length-map channels book)))) unopened
-    ]
+each_book book holds channels slot none each unopened = at-slot holds (map book channels) slot none unopened (All-map holds book channels each)
 
 -- a channel carries it by the plan that its chain goes by
 books_safe : {B : Type 0} (kind : B → Kind) (kept : B → Kept) (filters : Filters) (device : Device) (channels : List (PlayChannelOf B)) (slot : ℕ) → PlayAreOf device channels → All (IsPlayReady kind kept filters) channels

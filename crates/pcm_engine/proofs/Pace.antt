@@ -280,21 +280,21 @@ map_mixing_pace device mixed (suc n) book p = map_refilled_at book.state (map_ra
 -- ---- a desk
 
 -- what holds of each book, and of one that nobody has opened, holds of each slot
-at_slot : {X : Type 0} (P : X → Type 0) (books : List X) (slot : ℕ) (none : X) → P none → All P books → P (get_or books slot none)
-at_slot P books slot none unopened each =
+pub at-slot : {X : Type 0} (P : X → Type 0) (books : List X) (slot : ℕ) (none : X) → P none → All P books → P (get_or books slot none)
+at-slot P books slot none unopened each =
     elim (cases_lt slot (length books)) [
       | inl there ↦ each slot none there
       | inr past ↦ subst P (sym (get_or_past books slot none past)) unopened
     ]
 
 play_slot : (device : DeviceSeen) (desk : Desk) (slot : ℕ) → KeepsPace desk → PlayKeepsPace desk.mixed (play_at device desk slot)
-play_slot device desk slot p = at_slot (PlayKeepsPace desk.mixed) desk.play slot (play_unopened device) (record { played = omega arith }) p.playing
+play_slot device desk slot p = at-slot (PlayKeepsPace desk.mixed) desk.play slot (play_unopened device) (record { played = omega arith }) p.playing
 
 record_slot : (device : DeviceSeen) (desk : Desk) (slot : ℕ) → KeepsPace desk → RecordKeepsPace desk.handed (record_at device desk slot)
-record_slot device desk slot p = at_slot (RecordKeepsPace desk.handed) desk.recording slot (record_unopened device) (record { captured = omega arith; kept = omega arith }) p.recording
+record_slot device desk slot p = at-slot (RecordKeepsPace desk.handed) desk.recording slot (record_unopened device) (record { captured = omega arith; kept = omega arith }) p.recording
 
 map_slot : (device : DeviceSeen) (desk : Desk) (slot : ℕ) → KeepsPace desk → MapKeepsPace desk.mixed (map_at device desk slot)
-map_slot device desk slot p = at_slot (MapKeepsPace desk.mixed) desk.mapped slot (map_unopened device) (record { given = omega arith }) p.mapped
+map_slot device desk slot p = at-slot (MapKeepsPace desk.mixed) desk.mapped slot (map_unopened device) (record { given = omega arith }) p.mapped
 
 -- a channel runs ahead of nothing
 abbrev ChannelKeepsPace : Desk → Channel → Type 0

@@ -1,5 +1,5 @@
 -- What a read gets is the front of what waits in the ring of its own channel.
-use Rattle.std.proofs.Common.{◌≡◌, ℕ, ◌<◌, ◌≤◌, List, [], length, get_or, map, min, take, drop, Option, Some, None, ◌⊎◌, inl, inr, refl, sym, ap, ◌∙◌, subst, arith}
+use Rattle.std.proofs.Common.{◌≡◌, ℕ, ◌<◌, List, [], length, get_or, map, min, take, drop, Option, Some, None, inl, inr, refl, sym, ap, ◌∙◌, subst, arith}
 use Rattle.std.specs.Prelude.{All}
 use Rattle.std.proofs.lemmas.Bool.{cases_lt}
 use Rattle.std.proofs.lemmas.List.{get_or-map, get_or_default, length-map, take_all}
@@ -29,21 +29,23 @@ abbrev AreReady : {B : Type 0} → (B → Kind) → (B → Kept) → Filters →
 AreReady kind kept filters recorders = All (IsRecordReady kind kept filters) recorders
 
 -- the bytes and the frames of a slot: of its channel, or none where there is no such slot
-abbrev bytes_by : {B : Type 0} (kind : B → Kind) (kept : B → Kept) (filters : Filters) (recorders : List (RecordChannelOf B)) → AreReady kind kept filters recorders → (slot : ℕ) → (slot < length recorders) ⊎ (length recorders ≤ slot) → List ℕ
-bytes_by kind kept filters recorders ready slot (inl there) = (ready slot (some_channel recorders slot there) there).stands.bytes
-bytes_by kind kept filters recorders ready slot (inr past) = []
+record Stood {B : Type 0} (kept : B → Kept) (filters : Filters) (recorders : List (RecordChannelOf B)) (slot : ℕ) : Type 0 where
+  bytes : List ℕ
+  frames : List Frame
+  stands : (other : RecordChannelOf B) → slot < length recorders → RecordStands kept filters (get_or recorders slot other) (get_or recorders slot other).book bytes frames
 
-abbrev frames_by : {B : Type 0} (kind : B → Kind) (kept : B → Kept) (filters : Filters) (recorders : List (RecordChannelOf B)) → AreReady kind kept filters recorders → (slot : ℕ) → (slot < length recorders) ⊎ (length recorders ≤ slot) → List Frame
-frames_by kind kept filters recorders ready slot (inl there) = (ready slot (some_channel recorders slot there) there).stands.frames
-frames_by kind kept filters recorders ready slot (inr past) = []
-
-stands_by : {B : Type 0} (kind : B → Kind) (kept : B → Kept) (filters : Filters) (recorders : List (RecordChannelOf B)) (ready : AreReady kind kept filters recorders) (slot : ℕ) (other : RecordChannelOf B) → slot < length recorders
-    → (is : (slot < length recorders) ⊎ (length recorders ≤ slot))
-    → RecordStands kept filters (get_or recorders slot other) (get_or recorders slot other).book (bytes_by kind kept filters recorders ready slot is) (frames_by kind kept filters recorders ready slot is)
-stands_by {B} kind kept filters recorders ready slot other within (inl there) =
-    let some : RecordChannelOf B = some_channel recorders slot there in
-    subst (λ (c : RecordChannelOf B). RecordStands kept filters c c.book (ready slot some there).stands.bytes (ready slot some there).stands.frames) (get_or_default recorders slot some other there) (ready slot some there).stands.stands
-stands_by kind kept filters recorders ready slot other within (inr past) = absurd (omega arith)
+stood : {B : Type 0} (kind : B → Kind) (kept : B → Kept) (filters : Filters) (recorders : List (RecordChannelOf B)) → AreReady kind kept filters recorders → (slot : ℕ) → Stood kept filters recorders slot
+stood {B} kind kept filters recorders ready slot =
+    elim (cases_lt slot (length recorders)) [
+      | inl there ↦ (let some : RecordChannelOf B = some_channel recorders slot there in
+          let its = (ready slot some there).stands in
+          record {
+            bytes = its.bytes;
+            frames = its.frames;
+            stands = λ other within. subst (λ (c : RecordChannelOf B). RecordStands kept filters c c.book its.bytes its.frames) (get_or_default recorders slot some other there) its.stands;
+          })
+      | inr past ↦ record { bytes = []; frames = []; stands = λ other within. absurd (omega arith) }
+    ]
 
 -- ---- what a read gets
 
@@ -89,7 +91,8 @@ pub read-waiting : {B : Type 0} (kind : B → Kind) (kept : B → Kept) (filters
     → ((bytes : ℕ → List ℕ) (frames : ℕ → List Frame) → AllRecordStand kept filters recorders bytes frames → reply ≡ bytes_read device desk bytes count found)
     → reply ≡ front_taken (rings recorders) count found
 read-waiting kind kept filters device desk recorders count found reply are ready there answered =
-    let bytes : ℕ → List ℕ = λ slot. bytes_by kind kept filters recorders ready slot (cases_lt slot (length recorders)) in
-    let frames : ℕ → List Frame = λ slot. frames_by kind kept filters recorders ready slot (cases_lt slot (length recorders)) in
-    let stand : AllRecordStand kept filters recorders bytes frames = λ slot other within. stands_by kind kept filters recorders ready slot other within (cases_lt slot (length recorders)) in
+    let its : (slot : ℕ) → Stood kept filters recorders slot = stood kind kept filters recorders ready in
+    let bytes : ℕ → List ℕ = λ slot. (its slot).bytes in
+    let frames : ℕ → List Frame = λ slot. (its slot).frames in
+    let stand : AllRecordStand kept filters recorders bytes frames = λ slot other within. (its slot).stands other within in
     answered bytes frames stand ∙ read_found kept filters device desk recorders bytes frames count found are stand there
