@@ -68,14 +68,10 @@ abbrev IsCall : Event → Type 0
 IsCall (Intr n) = ⊥
 IsCall event = Unit {0}
 
--- whose answer has no bytes
+-- one whose answer has no bytes
 abbrev IsTold : Event → Type 0
 IsTold (Read fd count) = ⊥
-IsTold event = IsCall event
-
-told_calls : (event : Event) → IsTold event → IsCall event
-told_calls (Read fd count) told = tt
-told_calls event told = told
+IsTold event = Unit {0}
 
 no_bytes : (device : DeviceSeen) (desk : Desk) (bytes : ℕ → List ℕ) (event : Event) → IsTold event → [] ≡ bytes_answered device desk bytes event
 no_bytes device desk bytes (Read fd count) told = absurd told
@@ -99,12 +95,12 @@ applied-call {B} {kind} {kept} {filters} call {bytes} {samples} {old} {before} {
   turns = bus-same old new leaves.output;
 }
 
--- what is answered alone
 refusal : {P : Type 0} (result : Result Answer Errno) → IsErr result → OnErr result P → P
 refusal (Ok answer) err holds = cc
 refusal (Err errno) err holds = holds
 
-alone : {B : Type 0} (kept : B → Kept) (filters : Filters) (call : Event) (old : ParentOf B) (before : Descriptors) (new : ParentOf B) (left : Descriptors) (result : Result Answer Errno) (told : Reply)
+-- what is answered alone
+pub alone : {B : Type 0} (kept : B → Kept) (filters : Filters) (call : Event) (old : ParentOf B) (before : Descriptors) (new : ParentOf B) (left : Descriptors) (result : Result Answer Errno) (told : Reply)
     → IsTold call → told ≡ record { result = result; bytes = [] } → (IsErr result → (new ≡ old) × (left ≡ before))
     → ChangesBy filters (turn_on call) old before new left → RepliesBy filters (turn_on call) old before result → FollowsRules kept filters call old before new left told
 alone kept filters call old before new left result told tells is refused desk reply =
@@ -117,11 +113,11 @@ alone kept filters call old before new left result told tells is refused desk re
     }
 
 pub applied-answer : {B : Type 0} {kind : B → Kind} {kept : B → Kept} {filters : Filters} (call : Event) {bytes : List ℕ} {samples : List ℤ} {old : ParentOf B} {before : Descriptors} {new : ParentOf B} {left : Descriptors} {result : Result Answer Errno} {told : Reply}
-    → IsTold call → HasBus kept (seen filters old.device) old → told ≡ record { result = result; bytes = [] } → OnErr result ((new ≡ old) × (left ≡ before))
+    → IsCall call → IsTold call → HasBus kept (seen filters old.device) old → told ≡ record { result = result; bytes = [] } → OnErr result ((new ≡ old) × (left ≡ before))
     → ChangesBy filters (turn_on call) old before new left → RepliesBy filters (turn_on call) old before result
     → LeavesParent kind kept filters (bytes_moved bytes call) (area_written bytes (desk_with old before) call) old new → Applied kind kept filters call bytes samples old before new left told
-applied-answer {B} {kind} {kept} {filters} call {bytes} {samples} {old} {before} {new} {left} {result} {told} tells has kept_is refused desk reply leaves =
-    applied-call call (told_calls call tells) has leaves (alone kept filters call old before new left result told tells kept_is (λ err. refusal result err refused) desk reply)
+applied-answer {B} {kind} {kept} {filters} call {bytes} {samples} {old} {before} {new} {left} {result} {told} calls tells has kept_is refused desk reply leaves =
+    applied-call call calls has leaves (alone kept filters call old before new left result told tells kept_is (λ err. refusal result err refused) desk reply)
 
 -- ---- what is asked of the mixer device
 
@@ -153,8 +149,3 @@ pub applied-at : {B : Type 0} {kind : B → Kind} {kept : B → Kept} (engine : 
     → Applied kind kept engine.tables call bytes (samples_at_hand engine call) engine.parent engine.descriptors new left told → Applied kind kept engine.tables event bytes (samples_at_hand engine event) engine.parent engine.descriptors new left told
 applied-at {B} {kind} {kept} engine {event} {call} {bytes} {new} {left} {told} is a =
     subst (λ (e : Event). Applied kind kept engine.tables e bytes (samples_at_hand engine e) engine.parent engine.descriptors new left told) (sym is) a
-
--- what is accepted isn't refused
-pub accepted : {P : Type 0} (result : Result Answer Errno) (answer : Answer) → result ≡ Ok answer → IsErr result → P
-accepted (Ok given) answer is err = cc
-accepted (Err errno) answer is err = cc

@@ -1,14 +1,13 @@
-use Rattle.std.proofs.Common.{inl, ℤ, List, take, refl, ap, ◌∙◌, subst, arith}
+use Rattle.std.proofs.Common.{Ok, inl, ℤ, List, take, refl, ap, ◌∙◌, subst, arith}
 use Rattle.std.proofs.lemmas.Result.{on_err_weaker}
 use Rattle.pcm_oss.specs.declared.event.Event.TheVariants.{Intr}
 use Rattle.pcm_oss.specs.declared.reply.Answer.TheVariants.{Number}
-use Rattle.pcm_oss.specs.Replies.{Reply}
 use Rattle.pcm_vchan.specs.declared.parent.ParentOf.{ParentOf}
 use Rattle.pcm_vchan.specs.Parents.{EachCaptures}
 use Rattle.pcm_engine.specs.Desks.{desk_with}
 use Rattle.pcm_engine.specs.Engines.{samples_most}
 use Rattle.pcm_engine.specs.Invariants.{AreOwn}
-use Rattle.pcm_engine.proofs.Applying.{accepted, applied-answer, applied-at, applied-call, applied-mixer, order-after, own-mixed}
+use Rattle.pcm_engine.proofs.Applying.{alone, applied-answer, applied-at, applied-call, applied-mixer, order-after, own-mixed}
 use Rattle.pcm_engine.proofs.Applying.{samples-sized}
 use Rattle.pcm_engine.proofs.Desks.{desk-interrupted}
 use Rattle.pcm_engine.proofs.InOrder.{bytes-counted, can-be-asked, closable, due, few-mixed, here-seen, served}
@@ -21,7 +20,7 @@ pub returns-in-Open-clause-applied : goal.returns-in-Open-clause-applied
 returns-in-Open-clause-applied g c =
     let a = c.open.ensures in
     applied-at c.args.self.now c.in-Open.is
-    (applied-answer _ tt c.requires.ready.bus c.tell.ensures.kept a.refused a.desk a.reply a.leaves)
+    (applied-answer _ tt tt c.requires.ready.bus c.tell.ensures.kept a.refused a.desk a.reply a.leaves)
 
 pub invariant_of-self-clause-order : goal.invariant_of-self-clause-order
 invariant_of-self-clause-order g c =
@@ -32,7 +31,7 @@ pub returns-in-Ioctl-clause-applied : goal.returns-in-Ioctl-clause-applied
 returns-in-Ioctl-clause-applied g c =
     let a = c.ioctl.ensures in
     applied-at c.args.self.now c.in-Ioctl.is
-    (applied-answer _ tt c.requires.ready.bus c.tell-in-Ioctl.ensures.kept a.refused a.desk a.reply a.leaves)
+    (applied-answer _ tt tt c.requires.ready.bus c.tell-in-Ioctl.ensures.kept a.refused a.desk a.reply a.leaves)
 
 pub invariant_of-self-in-Ioctl-clause-order : goal.invariant_of-self-in-Ioctl-clause-order
 invariant_of-self-in-Ioctl-clause-order g c =
@@ -43,7 +42,7 @@ pub returns-in-Join-clause-applied : goal.returns-in-Join-clause-applied
 returns-in-Join-clause-applied g c =
     let a = c.join.ensures in
     applied-at c.args.self.now c.in-Join.is
-    (applied-answer _ tt c.requires.ready.bus c.tell-in-Join.ensures.kept a.refused a.desk a.reply a.leaves)
+    (applied-answer _ tt tt c.requires.ready.bus c.tell-in-Join.ensures.kept a.refused a.desk a.reply a.leaves)
 
 pub invariant_of-self-in-Join-clause-order : goal.invariant_of-self-in-Join-clause-order
 invariant_of-self-in-Join-clause-order g c =
@@ -54,7 +53,7 @@ pub returns-in-StartGroup-clause-applied : goal.returns-in-StartGroup-clause-app
 returns-in-StartGroup-clause-applied g c =
     let a = c.start_group.ensures in
     applied-at c.args.self.now c.in-StartGroup.is
-    (applied-answer _ tt c.requires.ready.bus c.tell-in-StartGroup.ensures.kept a.refused a.desk a.reply a.leaves)
+    (applied-answer _ tt tt c.requires.ready.bus c.tell-in-StartGroup.ensures.kept a.refused a.desk a.reply a.leaves)
 
 pub invariant_of-self-in-StartGroup-clause-order : goal.invariant_of-self-in-StartGroup-clause-order
 invariant_of-self-in-StartGroup-clause-order g c =
@@ -71,7 +70,7 @@ returns-in-Close-clause-applied g c =
     let here = c.here-here.ensures ∙ here-seen g.B.Feeder.kept old c.requires.ready.bus in
     let desk = closed.desk old.tables c.requires.ready.playing here in
     applied-at old c.in-Close.is
-    (applied-answer _ tt c.requires.ready.bus c.tell-in-Close.ensures.kept closed.refused desk (closed.reply old.tables) leaves)
+    (applied-answer _ tt tt c.requires.ready.bus c.tell-in-Close.ensures.kept closed.refused desk (closed.reply old.tables) leaves)
 
 pub invariant_of-self-in-Close : goal.invariant_of-self-in-Close
 invariant_of-self-in-Close g c =
@@ -93,7 +92,7 @@ returns-in-Write-clause-applied g c =
     let here = c.here-here.ensures ∙ here-seen g.B.Feeder.kept old c.requires.ready.bus in
     let turn = write-turn c.in-Write.fd _ (rw c.in-Write.is at c.requires.bytes) c.write.ensures.turn in
     let refused = on_err_weaker c.write.result (λ same. (same, refl)) c.write.ensures.refused in
-    applied-at old c.in-Write.is (applied-answer _ tt c.requires.ready.bus c.tell-in-Write.ensures.kept
+    applied-at old c.in-Write.is (applied-answer _ tt tt c.requires.ready.bus c.tell-in-Write.ensures.kept
     refused (turn.desk old.tables here) (turn.reply old.tables here) leaves)
 
 pub invariant_of-self-in-Write : goal.invariant_of-self-in-Write
@@ -114,7 +113,7 @@ returns-in-Poke-clause-applied g c =
     let leaves = c.poke.ensures.leaves old.tables in
     let turn = poke-turn c.in-Poke.fd c.in-Poke.offset _ (rw c.in-Poke.is at c.requires.bytes) c.poke.ensures.turn in
     let refused = on_err_weaker c.poke.result (λ same. (same, refl)) c.poke.ensures.refused in
-    applied-at old c.in-Poke.is (applied-answer _ tt c.requires.ready.bus c.tell-in-Poke.ensures.kept
+    applied-at old c.in-Poke.is (applied-answer _ tt tt c.requires.ready.bus c.tell-in-Poke.ensures.kept
     refused (turn.desk old.tables) (turn.reply old.tables) leaves)
 
 pub invariant_of-self-in-Poke : goal.invariant_of-self-in-Poke
@@ -176,17 +175,13 @@ returns-in-Intr-clause-applied g c =
     let n = c.in-Intr.frames in
     let new = c.interrupt.new.parent in
     let made = c.interrupt.ensures in
-    let told = c.keep.ensures in
+    let desk = desk-interrupted g.B.Feeder.kind g.B.Feeder.kept old.tables n _ old.parent new old.descriptors
+    made.slots made.recorders_slots made.maps_slots made.books made.recorders made.maps made.mixer made.handed made.mixed in
     let Hears : List ℤ → Type 0 = λ samples.
     EachCaptures g.B.Feeder.kind g.B.Feeder.kept old.tables n (take (samples_most old (Intr n)) samples) old.parent new in
     applied-at old c.in-Intr.is (record {
-      rules = record {
-        desk = desk-interrupted g.B.Feeder.kind g.B.Feeder.kept old.tables n _ old.parent new old.descriptors
-            made.slots made.recorders_slots made.maps_slots made.books made.recorders made.maps made.mixer made.handed made.mixed;
-        result = ap (λ (r : Reply). r.result) told;
-        refused = λ err. accepted c.keep.new.self.result (Number n) (ap (λ (r : Reply). r.result) told) err;
-        answered = λ bytes frames stand. ap (λ (r : Reply). r.bytes) told;
-      };
+      rules = alone g.B.Feeder.kept old.tables (Intr n) old.parent old.descriptors new old.descriptors (Ok (Number n)) c.keep.new.self
+          tt c.keep.ensures (λ err. cc) desk refl;
       device = made.device;
       own = record { playing = made.own; recording = made.recorders_own; mapped = made.maps_own };
       slots = made.slots;
