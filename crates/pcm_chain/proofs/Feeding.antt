@@ -29,7 +29,8 @@ use Rattle.pcm_feeder.proofs.Streams.{stream-channels}
 use Rattle.pcm_feeder.proofs.Turns.{turn-continues, turn-fitted, fed-fitted}
 use Rattle.pcm_feeder.proofs.Unrated.{given-unrated}
 use Rattle.pcm_plan.specs.Plans.{rate_among}
-use Rattle.pcm_plan.specs.Fits.{Follow, AreDistinct, HaveTables}
+use Rattle.pcm_plan.specs.Fits.{Follow, AreDistinct, HaveBits, HaveTables}
+use Rattle.pcm_chain.specs.Bits.{bits_after, bits_left}
 use Rattle.pcm_chain.specs.Boxes.{kept_in, HaveFitted}
 use Rattle.pcm_chain.specs.Feeds.{asked, first_frames, turn_in, fed_through, AreFed, GoneThrough, HaveRoom}
 
@@ -265,15 +266,20 @@ given-front keeps tables gain want spec n given source samples next old is fits 
     ∙ ap (λ k. first_frames k (channels_out spec) (written done.frames old)) (gives ∙ ap (λ (t : Turn). t.given) does)
     ∙ frames-written (channels_out spec) done.given done.frames old (omega (arith, out.least)) shape.channels shape.count
 
+-- the stages behind one decide
+bits-behind : (spec : Spec) (rest : List Spec) → 0 < length rest → bits_left (spec ∷ rest) ≡ bits_left rest
+bits-behind spec [] some = absurd (omega arith)
+bits-behind spec (next ∷ rest) some = refl
+
 -- frames that went through one stage, and then through the others, went through all
 pub gone-on : {B : Type 0} (kept : B → Kept) (old mid new : SevenOf B) (tables : Filters) (gain : Gain) (want : ℕ) (stages : List Spec) (spec : Spec) (rest : List Spec) (input next : List Frame) (given : ℕ) (before after : List ℤ)
-    → stages ≡ spec ∷ rest → AreDistinct stages
+    → stages ≡ spec ∷ rest → 0 < length rest → AreDistinct stages
     → ((other : Spec) → kind_of other ≢ kind_of spec → kept_in kept mid other ≡ kept_in kept old other)
     → kept_in kept mid spec ≡ (turn_in (kept_in kept old) tables gain want spec input).kept → next ≡ (turn_in (kept_in kept old) tables gain want spec input).frames
     → ((other : Spec) → All (λ s. kind_of other ≢ kind_of s) rest → kept_in kept new other ≡ kept_in kept mid other)
     → GoneThrough (kept_in kept mid) (kept_in kept new) tables gain want rest next given before after
     → GoneThrough (kept_in kept old) (kept_in kept new) tables gain want stages input given before after
-gone-on kept old mid new tables gain want stages spec rest input next given before after cut distinct others here are stay h =
+gone-on kept old mid new tables gain want stages spec rest input next given before after cut some distinct others here are stay h =
     let different = rw cut at distinct in
     let keep = others-keep kept old mid spec rest different.0 others in
     let through = through-same (kept_in kept old) (kept_in kept mid) tables gain want rest next keep ∙ ap (fed_through (kept_in kept old) tables gain want rest) are in
@@ -281,6 +287,7 @@ gone-on kept old mid new tables gain want stages spec rest input next given befo
     rw cut (record {
       fed = (stay spec different.0 ∙ here, subst P are (fed-same (kept_in kept old) (kept_in kept mid) (kept_in kept new) tables gain want rest next keep h.fed));
       given = h.given ∙ ap length through;
+      bits = subst (HaveBits (bits_left (spec ∷ rest))) through (subst (λ bits. HaveBits bits (fed_through (kept_in kept mid) tables gain want rest next)) (sym (bits-behind spec rest some)) h.bits);
       out = h.out ∙ ap (λ list. written list before) through;
     })
 
@@ -289,9 +296,10 @@ pub gone-last : (old new : Spec → Kept) (tables : Filters) (gain : Gain) (want
     → stages ≡ spec ∷ rest → length rest ≡ 0 → IsSpec spec → IsFitted spec (old spec) → channels_in spec ≡ source → 0 < source → n * source ≤ length samples
     → new spec ≡ (fed (old spec) tables gain (take (n * channels_in spec) samples) (asked spec want n)).kept
     → given ≡ (fed (old spec) tables gain (take (n * channels_in spec) samples) (asked spec want n)).given
+    → HaveBits (bits_after spec) (fed (old spec) tables gain (take (n * channels_in spec) samples) (asked spec want n)).frames
     → after ≡ written (fed (old spec) tables gain (take (n * channels_in spec) samples) (asked spec want n)).frames before
     → GoneThrough old new tables gain want stages (first_frames n source samples) given before after
-gone-last old new tables gain want stages spec rest n source given samples before after cut none is fits same above room keeps gives are =
+gone-last old new tables gain want stages spec rest n source given samples before after cut none is fits same above room keeps gives have are =
     let input = first_frames n source samples in
     let does = feeds old tables gain want spec n source samples fits same above room in
     let shape = turn-shape spec (old spec) tables gain input (asked spec want (length input)) is fits (rw same (frames_of-channels source (take (n * source) samples))) in
@@ -299,18 +307,21 @@ gone-last old new tables gain want stages spec rest n source given samples befor
     rw alone (record {
       fed = (keeps ∙ ap (λ (t : Turn). t.kept) does, tt);
       given = gives ∙ ap (λ (t : Turn). t.given) does ∙ sym shape.count;
+      bits = subst (λ (t : Turn). HaveBits (bits_after spec) t.frames) does have;
       out = are ∙ ap (λ (t : Turn). written t.frames before) does;
     })
 
 -- without a stage what comes in comes out
 pub gone-none : (old new : Spec → Kept) (tables : Filters) (gain : Gain) (want : ℕ) (stages : List Spec) (n source : ℕ) (samples before : List ℤ) → length stages ≡ 0 → AreChannels source → n * source ≤ length samples
+    → HaveBits 32 (first_frames n source samples)
     → GoneThrough old new tables gain want stages (first_frames n source samples) n before (take (n * source) samples ++ drop (n * source) before)
-gone-none old new tables gain want [] n source samples before none are room = record {
+gone-none old new tables gain want [] n source samples before none are room have = record {
   fed = tt;
   given = sym (length-first_frames n source samples (omega (arith, are.least)) room);
+  bits = have;
   out = written-front n source samples before room;
 }
-gone-none old new tables gain want (spec ∷ stages) n source samples before none are room = absurd (omega (arith, none))
+gone-none old new tables gain want (spec ∷ stages) n source samples before none are room have = absurd (omega (arith, none))
 
 -- the samples of a block have room
 pub block-room : (n c : ℕ) → n ≤ 256 → AreChannels c → n * c ≤ 2048

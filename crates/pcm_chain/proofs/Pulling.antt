@@ -1,12 +1,13 @@
 -- What a pull means: a block, no block, and one pull after another.
-use Rattle.std.proofs.Common.{◌≡◌, ◌<◌, ◌≤◌, ◌+◌, ◌-◌, ◌*◌, min, max, ℕ, zero, suc, ℤ, pos, Bool, false, List, [], ◌++◌, length, take, drop, get_or, replicate, inl, inr, refl, sym, ap, ◌∙◌, subst, arith}
+use Rattle.std.proofs.Common.{◌≡◌, ◌<◌, ◌≤◌, ◌+◌, ◌-◌, ◌*◌, min, max, ℕ, zero, suc, ℤ, pos, Bool, false, List, [], ◌++◌, length, take, drop, get_or, replicate, inl, inr, All, refl, sym, ap, ◌∙◌, subst, arith}
 use Rattle.std.proofs.lemmas.Bool.{cases_lt}
 use Rattle.std.proofs.Math.Seq.{take-add}
 use Rattle.std.proofs.lemmas.List.Concat.{flat_map-append}
 use Rattle.std.proofs.lemmas.List.{append-nil, append_assoc, drop_all, drop_at, drop-drop, ext_get_or, take_at, length-append, length-drop, length-replicate, length-take-le, nil_from_length, take-append-drop, take_all}
-use Rattle.std.proofs.lemmas.List.Elements.{All-append, All-take, All-replicate}
+use Rattle.std.proofs.lemmas.List.Elements.{All-nil, All-append, All-take, All-replicate}
 use Rattle.std.proofs.lemmas.List.FromFn.{get_or-map-range_with_len}
 use borrow.Rule.Slice.PartMut.{put_mid}
+use Rattle.pcm_num.specs.Limit.{FitsBits}
 use Rattle.pcm_format.specs.Frames.{Frame}
 use Rattle.pcm_format.specs.Layouts.{channels_of}
 use Rattle.pcm_rate.specs.declared.rate.Rate.{Rate}
@@ -20,13 +21,14 @@ use Rattle.pcm_feeder.specs.Streams.{silence, stream_of, interleaved, written, H
 use Rattle.pcm_feeder.proofs.Frames.{length-interleaved}
 use Rattle.pcm_feeder.proofs.Streams.{stream-silence-after}
 use Rattle.pcm_plan.specs.Plans.{PlanSeen, rate_in_plan}
-use Rattle.pcm_plan.specs.Fits.{IsPlan}
+use Rattle.pcm_plan.specs.Fits.{HaveBits, IsPlan}
 use Rattle.pcm_plan.specs.Through.{through, out, outs}
 use Rattle.pcm_plan.proofs.Fits.{ratio-in}
 use Rattle.pcm_plan.proofs.Through.{through-same, out-append, length-outs, outs-add, outs-channels}
 use Rattle.pcm_chain.specs.declared.chain.ChainOf.{ChainOf}
 use Rattle.pcm_chain.specs.declared.chain.Pulled.{Pulled}
 use Rattle.pcm_chain.specs.declared.counts.Advance.{Advance}
+use Rattle.pcm_chain.specs.Bits.{bits_left}
 use Rattle.pcm_chain.specs.Boxes.{kept_in}
 use Rattle.pcm_chain.specs.Chains.{boxes_in, plan_in, counts_in, StagesStand, ChainStands}
 use Rattle.pcm_chain.specs.Counts.{allowed_in_all, AreBounded, Goes, StandFor}
@@ -87,13 +89,14 @@ pub record IsBlock {B : Type 0} (kept : B → Kept) (tables : Filters) (gain : G
   pub counts : (eaten given : ℕ) → StandFor (rate_in_plan (plan_in old)) (counts_in old) eaten given → StandFor (rate_in_plan (plan_in old)) (counts_in new) (eaten + advance.eaten) (given + advance.given)
   pub have : HaveChannels (channels_of (plan_in old).source) waiting
   pub fed : AreFed (kept_in kept (boxes_in old)) (kept_in kept (boxes_in new)) tables gain want (plan_in old).stages (offered (channels_of (plan_in old).source) advance waiting)
+  pub bits : HaveBits (bits_left (plan_in old).stages) (fed_through (kept_in kept (boxes_in old)) tables gain want (plan_in old).stages (offered (channels_of (plan_in old).source) advance waiting))
   pub out : after ≡ written (fed_through (kept_in kept (boxes_in old)) tables gain want (plan_in old).stages (offered (channels_of (plan_in old).source) advance waiting)) before
 
 pub block-pulls : {B : Type 0} (kept : B → Kept) (tables : Filters) (gain : Gain) (ended : Bool) (want : ℕ) (waiting : List Frame) (old new : ChainOf B) (advance : Advance) (out_old out_new : List ℤ)
     (x : List Frame) (quiet before : ℕ) → IsBlock kept tables gain ended want waiting old new advance out_old out_new → ChainStands kept tables old x quiet before → IsPastTheEnd ended quiet waiting
     → Pulls kept tables gain ended want waiting old new x before (record { given = advance.given; eaten = advance.eaten }) out_old out_new
 block-pulls {B = B} kept tables gain ended want waiting old new advance out_old out_new x quiet before h stands past =
-    record { far = record { given = far.0; eaten = far.1 }; frames = h.out ∙ ap (λ list. written list out_old) given-are; stands = behind }
+    record { far = record { given = far.0; eaten = far.1 }; frames = h.out ∙ ap (λ list. written list out_old) given-are; bits = subst (HaveBits (bits_left plan.stages)) given-are h.bits; stands = behind }
   where
     plan : PlanSeen
     plan = plan_in old
@@ -219,6 +222,7 @@ pub nothing-pulled : {B : Type 0} (kept : B → Kept) (tables : Filters) (gain :
 nothing-pulled kept tables gain ended waiting chain x quiet before out stands past = record {
   far = record { given = omega arith; eaten = eats quiet stands.silent past };
   frames = refl;
+  bits = All-nil (λ (frame : Frame). All (FitsBits (bits_left (plan_in chain).stages)) frame);
   stands = record {
     zeros = quiet;
     stands = subst (λ n. ChainStands kept tables chain (x ++ []) quiet n) same (subst (λ list. ChainStands kept tables chain list quiet before) (sym (append-nil x)) stands);
@@ -277,7 +281,7 @@ pub goes-on : {B : Type 0} (kept : B → Kept) (tables : Filters) (gain : Gain) 
     (first second : Pulled) (start middle part : List ℤ) → GoesOn kept tables gain ended asked more waiting old mid new x before first second start middle part
     → Pulls kept tables gain ended (asked + more) waiting old new x before (record { given = first.given + second.given; eaten = first.eaten + second.eaten })
     start (take (asked * channels_of (plan_in old).target) middle ++ part)
-goes-on {B = B} kept tables gain ended asked more waiting old mid new x before first second start middle part h = record { far = far; frames = frames; stands = behind }
+goes-on {B = B} kept tables gain ended asked more waiting old mid new x before first second start middle part h = record { far = far; frames = frames; bits = bits; stands = behind }
   where
     plan : PlanSeen
     plan = plan_in old
@@ -358,6 +362,14 @@ goes-on {B = B} kept tables gain ended asked more waiting old mid new x before f
         ∙ written-behind one two start middle (asked * channels_of plan.target) h.pulled.frames front
         ∙ ap (λ list. written list start) (sym (outs-add plan tables gain (x ++ waiting) before first.given second.given))
 
+    bits : HaveBits (bits_left plan.stages) (outs plan tables gain (x ++ waiting) before (first.given + second.given))
+    bits =
+        let Have : List Frame → Type 0 = HaveBits (bits_left plan.stages) in
+        let next = subst (λ (p : PlanSeen). HaveBits (bits_left p.stages) (outs p tables gain (y ++ rest) (before + first.given) second.given)) h.plan second-pulls.bits in
+        subst Have (sym (outs-add plan tables gain (x ++ waiting) before first.given second.given))
+        (All-append (λ (frame : Frame). All (FitsBits (bits_left plan.stages)) frame) one two h.pulled.bits
+        (subst (λ list. Have (outs plan tables gain list (before + first.given) second.given)) joined next))
+
     taken : y ++ take second.eaten rest ≡ x ++ take (first.eaten + second.eaten) waiting
     taken = append_assoc x (take first.eaten waiting) (take second.eaten rest) ∙ ap (λ list. x ++ list) (sym (take-add first.eaten second.eaten waiting))
 
@@ -386,5 +398,6 @@ falls-short kept tables gain ended asked want waiting old new x before pulled st
     record {
       far = record { given = omega (arith, far.given); eaten = omega (arith, far.eaten, past, grown) };
       frames = h.frames;
+      bits = h.bits;
       stands = h.stands;
     }

@@ -30,6 +30,7 @@ use Rattle.pcm_chain.specs.declared.chain.ChainOf.{ChainOf}
 use Rattle.pcm_chain.specs.declared.chain.Pushed.{Pushed}
 use Rattle.pcm_chain.specs.declared.counts.Advance.{Advance}
 use Rattle.pcm_chain.specs.declared.counts.Counts.{Counts}
+use Rattle.pcm_chain.specs.Bits.{bits_left}
 use Rattle.pcm_chain.specs.Boxes.{kept_in}
 use Rattle.pcm_chain.specs.Chains.{boxes_in, plan_in, counts_in, ChainStands}
 use Rattle.pcm_chain.specs.Counts.{eats_all, AreBounded, Goes, InTime, StandFor}
@@ -100,6 +101,7 @@ pub record IsWhole {B : Type 0} (kept : B → Kept) (tables : Filters) (input : 
   pub counts : (eaten given : ℕ) → StandFor (rate_in_plan (plan_in old)) (counts_in old) eaten given → StandFor (rate_in_plan (plan_in old)) (counts_in new) (eaten + length input) (given + come old input)
   pub have : HaveChannels (channels_of (plan_in old).source) input
   pub fed : AreFed (kept_in kept (boxes_in old)) (kept_in kept (boxes_in new)) tables unity (come old input + 1) (plan_in old).stages input
+  pub bits : HaveBits (bits_left (plan_in old).stages) (fed_through (kept_in kept (boxes_in old)) tables unity (come old input + 1) (plan_in old).stages input)
   pub out : after ≡ written (fed_through (kept_in kept (boxes_in old)) tables unity (come old input + 1) (plan_in old).stages input) before
 
 -- and what it means
@@ -145,6 +147,7 @@ block-records {B = B} kept tables input old new x start out h stands = record { 
       counts = h.counts;
       have = h.have;
       fed = subst (λ list. AreFed (kept_in kept (boxes_in old)) (kept_in kept (boxes_in new)) tables unity (m + 1) plan.stages list) (sym none) h.fed;
+      bits = subst (λ list. HaveBits (bits_left plan.stages) (fed_through (kept_in kept (boxes_in old)) tables unity (m + 1) plan.stages list)) (sym none) h.bits;
       out = h.out ∙ ap (λ list. written (fed_through (kept_in kept (boxes_in old)) tables unity (m + 1) plan.stages list) start) (sym none);
     }) stands (λ some. absurd (omega (arith, some)))
 
@@ -173,9 +176,10 @@ pub whole-is : {B : Type 0} (kept : B → Kept) (tables : Filters) (input offers
     → plan_in new ≡ plan_in old → HaveChannels (channels_of (plan_in old).source) input
     → ((eaten given : ℕ) → StandFor rate (counts_in old) eaten given → StandFor rate (counts_in new) (eaten + advance.eaten) (given + advance.given))
     → AreFed (kept_in kept (boxes_in old)) (kept_in kept (boxes_in new)) tables unity (advance.given + 1) stages offers
+    → HaveBits (bits_left stages) (fed_through (kept_in kept (boxes_in old)) tables unity (advance.given + 1) stages offers)
     → out ≡ written (fed_through (kept_in kept (boxes_in old)) tables unity (advance.given + 1) stages offers) start
     → IsWhole kept tables input old new start out × (advance.given ≡ come old input)
-whole-is kept tables input offers old new start out rate frames advance stages rated count eats staged same plan have counts fed gives =
+whole-is kept tables input offers old new start out rate frames advance stages rated count eats staged same plan have counts fed bits gives =
     let real = rate_in_plan (plan_in old) in
     let specs = (plan_in old).stages in
     let before = kept_in kept (boxes_in old) in
@@ -189,6 +193,9 @@ whole-is kept tables input offers old new start out rate frames advance stages r
         have = have;
         fed = subst (λ (a : Advance). AreFed before after tables unity (a.given + 1) specs input) full
             (subst (λ list. AreFed before after tables unity (advance.given + 1) specs list) same (subst (λ list. AreFed before after tables unity (advance.given + 1) list offers) staged fed));
+        bits = subst (λ (a : Advance). HaveBits (bits_left specs) (fed_through before tables unity (a.given + 1) specs input)) full
+            (subst (λ list. HaveBits (bits_left specs) (fed_through before tables unity (advance.given + 1) specs list)) same
+            (subst (λ list. HaveBits (bits_left list) (fed_through before tables unity (advance.given + 1) list offers)) staged bits));
         out = gives
             ∙ ap (λ list. written (fed_through before tables unity (advance.given + 1) list offers) start) staged
             ∙ ap (λ list. written (fed_through before tables unity (advance.given + 1) specs list) start) same

@@ -11,8 +11,9 @@ use Rattle.pcm_feeder.specs.Turns.{Turn, turn, fed}
 use Rattle.pcm_feeder.specs.Stages.{channels_in}
 use Rattle.pcm_feeder.specs.declared.rack.SevenOf.{SevenOf}
 use Rattle.pcm_fixed.specs.Fixed.{fixed_items}
-use Rattle.pcm_plan.specs.Fits.{Follow}
+use Rattle.pcm_plan.specs.Fits.{Follow, HaveBits}
 use Rattle.pcm_chain.specs.declared.staging.Staging.{Staging}
+use Rattle.pcm_chain.specs.Bits.{bits_left}
 use Rattle.pcm_chain.specs.Boxes.{kept_in}
 
 -- the first n frames of samples
@@ -52,12 +53,13 @@ AreFed old new tables gain want (spec ∷ specs) input =
     (new spec ≡ (turn_in old tables gain want spec input).kept)
     × AreFed old new tables gain want specs (turn_in old tables gain want spec input).frames
 
--- Frames went through stages: each keeps what it does then, and `count` frames came out and stand at
--- the front of an output.
+-- Frames went through stages: each keeps what it does then, and `count` frames came out, of as many bits as
+-- these leave, and stand at the front of an output.
 pub record GoneThrough (old new : Spec → Kept) (tables : Filters) (gain : Gain) (want : ℕ)
     (stages : List Spec) (input : List Frame) (count : ℕ) (before after : List ℤ) : Type 0 where
   pub fed : AreFed old new tables gain want stages input
   pub given : count ≡ length (fed_through old tables gain want stages input)
+  pub bits : HaveBits (bits_left stages) (fed_through old tables gain want stages input)
   pub out : after ≡ written (fed_through old tables gain want stages input) before
 
 -- stages that take frames of `source` channels, and whose last one has room for `want` frames

@@ -1,3 +1,4 @@
+pub mod Bits
 pub mod Boxes
 pub mod Counts
 pub mod Feeds

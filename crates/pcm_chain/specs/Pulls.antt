@@ -11,10 +11,12 @@ use Rattle.pcm_feeder.specs.Filters.{Filters}
 use Rattle.pcm_feeder.specs.Kept.{Kept}
 use Rattle.pcm_feeder.specs.Streams.{frames_of, written}
 use Rattle.pcm_plan.specs.Plans.{PlanSeen, rate_in_plan}
+use Rattle.pcm_plan.specs.Fits.{HaveBits}
 use Rattle.pcm_plan.specs.Through.{outs}
 use Rattle.pcm_ring.specs.Ring.{Ring}
 use Rattle.pcm_chain.specs.declared.chain.ChainOf.{ChainOf}
 use Rattle.pcm_chain.specs.declared.chain.Pulled.{Pulled}
+use Rattle.pcm_chain.specs.Bits.{bits_left}
 use Rattle.pcm_chain.specs.Chains.{plan_in, ChainStands}
 use Rattle.pcm_chain.specs.Counts.{allowed_in_all}
 
@@ -42,12 +44,13 @@ pub record StandsBehind {B : Type 0} (kept : B → Kept) (tables : Filters) (end
   pub ends : 0 < zeros → IsTrue ended × (pulled.eaten ≡ length waiting)
 
 -- What a pull does to a chain that has eaten the frames x and given `before` frames: it goes as far
--- as the counts say, and the frames given are the plan's over all frames.
+-- as the counts say, and the frames given are the plan's over all frames, of as many bits as it leaves.
 pub record Pulls {B : Type 0} (kept : B → Kept) (tables : Filters) (gain : Gain) (ended : Bool)
     (want : ℕ) (waiting : List Frame) (old new : ChainOf B) (x : List Frame) (before : ℕ)
     (pulled : Pulled) (out_old out_new : List ℤ) : Type 0 where
   pub far : PullsAsFar (rate_in_plan (plan_in old)) ended want (length x) (length waiting) before pulled
   pub frames : out_new ≡ written (outs (plan_in old) tables gain (x ++ waiting) before pulled.given) out_old
+  pub bits : HaveBits (bits_left (plan_in old).stages) (outs (plan_in old) tables gain (x ++ waiting) before pulled.given)
   pub stands : StandsBehind kept tables ended waiting new x before pulled
 
 -- a pull does that, whatever the frames x and `before`, where silence was eaten only past the end

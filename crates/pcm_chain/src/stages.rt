@@ -1,6 +1,7 @@
 //! The boxes of stages, fitted and fed one after another.
 
 ghost use Rattle.std.specs.Prelude.{◌≡◌, ◌≤◌, ◌*◌, length, All};
+ghost use Rattle.pcm_num.specs.Limit.{FitsBits};
 ghost use Rattle.pcm_rate.specs.Rates.{unchanged};
 ghost use Rattle.pcm_feeder.specs.declared.stage.Spec.{Spec};
 ghost use Rattle.pcm_feeder.specs.Kept.{fresh, IsFitted};
@@ -9,7 +10,8 @@ ghost use Rattle.pcm_feeder.specs.Racks.{marks_of, HaveKinds};
 ghost use Rattle.pcm_feeder.specs.Stages.{channels_in, channels_out};
 ghost use Rattle.pcm_feeder.specs.Streams.{written};
 ghost use Rattle.pcm_plan.specs.Plans.{rate_among};
-ghost use Rattle.pcm_plan.specs.Fits.{AreDistinct, HaveTables};
+ghost use Rattle.pcm_plan.specs.Fits.{AreDistinct, HaveBits, HaveTables};
+ghost use Rattle.pcm_chain.specs.Bits.{bits_after};
 ghost use Rattle.pcm_chain.specs.Boxes.{kept_in, HaveFitted, KeepOthers, KeepAllOthers};
 ghost use Rattle.pcm_chain.specs.Feeds.{asked, fed_in, first_staged, GoneThrough, HaveRoom};
 ghost use Rattle.pcm_chain.specs.declared.staging.TheConstants.{BLOCK_FRAMES};
@@ -83,6 +85,7 @@ pub fn feed_stages<B: Feeder>(
     if stages.is_empty() {
         let samples = frames * source;
         out[..samples].copy_from_slice(&staging.now[..samples]);
+        tell_bits(out);
         return frames;
     }
     let spec = stages[0];
@@ -114,8 +117,8 @@ pub fn feed_stages<B: Feeder>(
     )
 }
 
-// Feeds the first `frames` frames of `input` to the box of a stage, which gives frames to the front of `output`. Returns how many
-// these are.
+// Feeds the first `frames` frames of `input` to a stage, which gives frames to the front of `output`, of no more bits than it leaves.
+// Returns how many these are.
 fn feed_stage<B: Feeder>(
     boxes: &mut SevenOf<B>,
     spec: Spec,
@@ -139,6 +142,8 @@ fn feed_stage<B: Feeder>(
     ensures given { result
         ≡ (fed_in B.kept boxes.old spec tables.now gain frames want input.now).given }
     ensures most { result ≤ asked spec want frames }
+    ensures bits { HaveBits (bits_after spec)
+        (fed_in B.kept boxes.old spec tables.now gain frames want input.now).frames }
     ensures frames { output.new ≡ written
         (fed_in B.kept boxes.old spec tables.now gain frames want input.now).frames output.old }
 {
@@ -154,7 +159,18 @@ fn feed_stage<B: Feeder>(
         Spec::Depth { .. } => boxes.depth.feed(tables, offered, input, output),
         Spec::Eq { .. } => boxes.eq.feed(tables, offered, input, output),
     };
+    tell_bits(input);
+    tell_bits(output);
     moved.given
+}
+
+// Tells that each sample has 32 bits, as its type keeps it. Nothing of this is left in the program.
+fn tell_bits(samples: &[i32])
+    ensures { All (FitsBits 32) samples.now }
+{
+    for sample in samples {
+        let _value = *sample;
+    }
 }
 
 // The channels that a stage takes.

@@ -9,6 +9,8 @@ use Rattle.pcm_rate.specs.declared.rate.Rate.{Rate}
 use Rattle.pcm_feeder.specs.Layouts.{unity}
 use Rattle.pcm_feeder.specs.Streams.{silence, written}
 use Rattle.pcm_feeder.proofs.Frames.{frames_of-channels}
+use Rattle.pcm_plan.specs.Fits.{HaveBits}
+use Rattle.pcm_chain.specs.Bits.{bits_left}
 use Rattle.pcm_chain.specs.Boxes.{kept_in}
 use Rattle.pcm_chain.specs.Feeds.{fed_through, AreFed}
 use Rattle.pcm_chain.specs.Pushes.{pushed_frames}
@@ -85,6 +87,7 @@ returns-clause-gives g c x given stands enough =
       counts = rw c.rate-rate.ensures.value at c.after-self.ensures.stands;
       have = frames_of-channels width samples;
       fed = subst Fed input_is (rw c.stages.ensures.value at c.feed_stages.ensures.gone.fed);
+      bits = subst (λ list. HaveBits (bits_left plan.stages) (fed_through (kept_in kept old.boxes) c.args.tables.now unity c.args.want plan.stages list)) input_is (rw c.stages.ensures.value at c.feed_stages.ensures.gone.bits);
       out = (rw c.stages.ensures.value at c.feed_stages.ensures.gone.out)
           ∙ ap (λ list. written (fed_through (kept_in kept old.boxes) c.args.tables.now unity c.args.want plan.stages list) c.args.out.now) input_is;
     }) stands enough

@@ -54,7 +54,7 @@ spell-kept-requires-clause-range g c =
     let have = frames_of-channels (channels_of plan.source) c.args.input.now in
     let whole = whole-is kept c.args.tables.now input _ old (record old { boxes = c.feed_stages.new.boxes; counts = c.after-self.result; bounded = subst (λ r. AreBounded r c.after-self.result) c.rate-rate.ensures.value c.after-self.ensures.bounded }) _ _ c.rate-rate.result c.args.frames c.advance_whole-advance.result c.stages.result.now c.rate-rate.ensures.value
     (count-frames (channels_of plan.source) c.args.frames c.args.input.now above c.requires.whole) c.advance_whole-advance.ensures c.stages.ensures.value offers refl have
-    c.after-self.ensures.stands c.feed_stages.ensures.gone.fed c.feed_stages.ensures.gone.out in
+    c.after-self.ensures.stands c.feed_stages.ensures.gone.fed c.feed_stages.ensures.gone.bits c.feed_stages.ensures.gone.out in
     let s = c.requires.records in
     let more = block-records kept c.args.tables.now input old _ s.frames _ c.feed_stages.new.out whole.0 s.records in
     let back = c.deref.ensures.value ∙ take_at c.feed_stages.new.out (drop (length c.feed_stages.new.out) (fixed_items old.block)) (fixed_len old.block) (omega (arith, c.feed_stages.auto.out, c.deref_mut.ensures.len)) in
@@ -76,7 +76,7 @@ returns-clause-records g c =
     let have = frames_of-channels (channels_of plan.source) c.args.input.now in
     let whole = whole-is kept c.args.tables.now input _ old _ _ _ c.rate-rate.result c.args.frames c.advance_whole-advance.result c.stages.result.now c.rate-rate.ensures.value
     (count-frames (channels_of plan.source) c.args.frames c.args.input.now above c.requires.whole) c.advance_whole-advance.ensures c.stages.ensures.value offers refl have
-    c.after-self.ensures.stands c.feed_stages.ensures.gone.fed c.feed_stages.ensures.gone.out in
+    c.after-self.ensures.stands c.feed_stages.ensures.gone.fed c.feed_stages.ensures.gone.bits c.feed_stages.ensures.gone.out in
     let s = c.requires.records in
     let more = block-records kept c.args.tables.now input old _ s.frames _ c.feed_stages.new.out whole.0 s.records in
     let fits = frames_of-bits 32 (channels_of plan.source) c.args.input.now c.copy.ensures.fits in
@@ -94,7 +94,7 @@ returns-clause-pushes g c x stands =
     let have = frames_of-channels (channels_of plan.source) c.args.input.now in
     let whole = whole-is kept c.args.tables.now input _ old _ _ _ c.rate-rate.result c.args.frames c.advance_whole-advance.result c.stages.result.now c.rate-rate.ensures.value
     (count-frames (channels_of plan.source) c.args.frames c.args.input.now above c.requires.whole) c.advance_whole-advance.ensures c.stages.ensures.value offers refl have
-    c.after-self.ensures.stands c.feed_stages.ensures.gone.fed c.feed_stages.ensures.gone.out in
+    c.after-self.ensures.stands c.feed_stages.ensures.gone.fed c.feed_stages.ensures.gone.bits c.feed_stages.ensures.gone.out in
     let more = block-records kept c.args.tables.now input old _ x _ c.feed_stages.new.out whole.0 stands in
     let back = c.deref.ensures.value ∙ take_at c.feed_stages.new.out (drop (length c.feed_stages.new.out) (fixed_items old.block)) (fixed_len old.block) (omega (arith, c.feed_stages.auto.out, c.deref_mut.ensures.len)) in
     let front = come-first kept c.args.tables.now input old _ x _ c.feed_stages.new.out c.deref.result.now c.spell-kept.result c.channels-target.result more stands have back
