@@ -1,13 +1,16 @@
 -- What a pull of a channel's chain gives of the bytes that were taken of its area, and what two pieces give together.
-use Rattle.std.proofs.Common.{◌≡◌, ℕ, ◌+◌, ◌-◌, ◌*◌, ◌≤◌, true, false, List, [], ◌++◌, length, take, drop, ℤ, inl, inr, refl, sym, ap, ◌∙◌, subst, arith, length-append}
+use Rattle.std.proofs.Common.{◌≡◌, ℕ, ◌+◌, ◌-◌, ◌*◌, ◌≤◌, true, false, List, [], ◌++◌, length, take, drop, ℤ, All, inl, inr, refl, sym, ap, ◌∙◌, subst, arith, length-append}
 use Rattle.std.proofs.Math.Nat.{mul_comm, mul-div_cancel, mul-le-mul_right, mul-sub}
 use Rattle.std.proofs.Math.Seq.{take-append-add}
 use Rattle.std.proofs.lemmas.Bool.{cases_lt}
 use Rattle.std.proofs.lemmas.List.{append-nil, append_assoc, drop_all, drop_at, length-drop, length-take-le, take_all, take-append-drop}
+use Rattle.std.proofs.lemmas.List.Elements.{All-nil, All-append}
 use Rattle.std.proofs.lemmas.List.Concat.{flat_map-append}
 use Rattle.pcm_fixed.specs.declared.fixed.Fixed.{Fixed}
 use Rattle.pcm_fixed.specs.Fixed.{fixed_items}
+use Rattle.pcm_num.specs.Limit.{FitsBits}
 use Rattle.pcm_format.specs.declared.settings.Settings.{Settings}
+use Rattle.pcm_format.specs.Formats.{bits_of}
 use Rattle.pcm_format.specs.Frames.{Frame, frame_bytes, frames, whole_frames}
 use Rattle.pcm_format.specs.Layouts.{channels_of}
 use Rattle.pcm_format.proofs.Streams.{frame_bytes-above, length-frames}
@@ -22,19 +25,22 @@ use Rattle.pcm_feeder.specs.Filters.{Filters}
 use Rattle.pcm_feeder.specs.Kept.{Kept}
 use Rattle.pcm_feeder.specs.Racks.{HaveKinds}
 use Rattle.pcm_feeder.specs.Streams.{interleaved, written}
-use Rattle.pcm_plan.specs.Fits.{IsPlan}
+use Rattle.pcm_plan.specs.Fits.{HaveBits, IsPlan}
 use Rattle.pcm_plan.specs.Plans.{PlanSeen, rate_in_plan}
 use Rattle.pcm_plan.specs.Through.{outs}
 use Rattle.pcm_plan.proofs.Through.{length-outs, outs-add, outs-append, outs-channels}
 use Rattle.pcm_chain.specs.declared.chain.ChainOf.{ChainOf}
 use Rattle.pcm_chain.specs.declared.chain.Pulled.{Pulled}
+use Rattle.pcm_chain.specs.Bits.{bits_left}
 use Rattle.pcm_chain.specs.Chains.{boxes_in, plan_in, ChainStands}
 use Rattle.pcm_chain.specs.Pulls.{waiting_frames, PullsAsFar, PullsOn}
 use Rattle.pcm_chain.specs.Rings.{taken_bytes, without_bytes}
+use Rattle.pcm_chain.proofs.Bits.{bits-played}
+use Rattle.pcm_chain.proofs.Pushing.{interleaved-bits}
 use Rattle.pcm_chain.proofs.Waiting.{frames-waiting}
 use Rattle.pcm_desk.specs.declared.device.Device.{Device}
 use Rattle.pcm_desk.specs.declared.map_book.MapBook.{MapBook}
-use Rattle.pcm_desk.specs.Device.{DeviceSeen, filters_of, play_plan_between, seen}
+use Rattle.pcm_desk.specs.Device.{DeviceSeen, filters_of, mix_settings, play_plan_between, quality_of, seen}
 use Rattle.pcm_desk.specs.MapBooks.{is_map_running, map_gives, taken_of}
 use Rattle.pcm_desk.specs.Channels.{map_rate_at}
 use Rattle.pcm_desk.specs.Openings.{ring_bytes}
@@ -42,7 +48,7 @@ use Rattle.pcm_sound.specs.Areas.{area_bytes}
 use Rattle.pcm_sound.specs.Gains.{map_gain}
 use Rattle.pcm_sound.specs.Given.{given_samples}
 use Rattle.pcm_map.specs.declared.channel.MapChannelOf.{MapChannelOf}
-use Rattle.pcm_map.specs.Channels.{area_of, CountsFit, IsMapPlanned, IsMapReady, MapStands}
+use Rattle.pcm_map.specs.Channels.{area_of, CountsFit, IsMapPlanned, IsMapReady, MapStands, MapStandsForSome}
 use Rattle.pcm_map.specs.Pieces.{book_giving, taken_for, MapGives}
 use Rattle.pcm_oss.specs.declared.event.Way.TheVariants.{Map}
 use Rattle.pcm_path.proofs.Paths.{planned-as}
@@ -100,6 +106,7 @@ far-enough rate n eaten waiting given pulled ratio all rest far =
 pub record PullsPiece {B : Type 0} (kept : B → Kept) (filters : Filters) (gain : Gain) (n : ℕ) (old : MapChannelOf B) (bytes : List ℕ) (new : ChainOf B) (pulled : Pulled) (out_old out_new : List ℤ) : Type 0 where
   pub all : pulled.eaten * frame_bytes old.book.opening.settings ≡ length (taken_for filters n old)
   pub samples : out_new ≡ written (outs (play_plan_between (seen filters old.path.device) old.book.opening.settings) filters gain (frames old.book.opening.settings (bytes ++ taken_for filters n old)) old.book.given n) out_old
+  pub bits : HaveBits (bits_of old.path.device.mix.format) (outs (play_plan_between (seen filters old.path.device) old.book.opening.settings) filters gain (frames old.book.opening.settings (bytes ++ taken_for filters n old)) old.book.given n)
   pub chain_is : ChainStands kept filters new (frames old.book.opening.settings (bytes ++ taken_for filters n old)) 0 (old.book.given + n)
 
 pub pulls-piece : {B : Type 0} (kept : B → Kept) (filters : Filters) (gain : Gain) (n : ℕ) (old : MapChannelOf B) (ring : Ring) (new : ChainOf B) (pulled : Pulled) (out_old out_new : List ℤ) → IsMapPlanned filters old → is_map_running old.book.state ≡ true
@@ -155,6 +162,10 @@ pulls-piece {B = B} kept filters gain n old ring new pulled out_old out_new plan
           ∙ ap (λ (q : PlanSeen). written (outs q filters gain (x ++ waiting) book.given pulled.given) out_old) planned.plan_is
           ∙ ap (λ (fs : List Frame). written (outs plan filters gain fs book.given pulled.given) out_old) joined
           ∙ ap (λ (k : ℕ). written (outs plan filters gain list book.given k) out_old) went.0;
+      bits = subst (λ (deep : ℕ). HaveBits deep (outs plan filters gain list book.given n)) (bits-played filters (quality_of device) settings (mix_settings device))
+          (subst (λ (k : ℕ). HaveBits (bits_left plan.stages) (outs plan filters gain list book.given k)) went.0
+          (subst (λ (fs : List Frame). HaveBits (bits_left plan.stages) (outs plan filters gain fs book.given pulled.given)) joined
+          (subst (λ (q : PlanSeen). HaveBits (bits_left q.stages) (outs q filters gain (x ++ waiting) book.given pulled.given)) planned.plan_is p.bits)));
       chain_is = subst (λ (zeros : ℕ). ChainStands kept filters new list zeros (book.given + n)) none_fed
           (subst (λ (k : ℕ). ChainStands kept filters new list behind.zeros (book.given + k)) went.0
           (subst (λ (fs : List Frame). ChainStands kept filters new fs behind.zeros (book.given + pulled.given)) (ap (λ (rest : List Frame). x ++ rest) taken_all ∙ joined) behind.stands));
@@ -199,12 +210,25 @@ put-behind a list piece =
     ap (λ (rest : List ℤ). take a list ++ (piece ++ rest)) (drop_all (length list - a) (drop a list) (omega (arith, length-drop a list)))
     ∙ ap (λ (rest : List ℤ). take a list ++ rest) (append-nil piece)
 
+-- the samples of a piece, at the front of a buffer
+piece-front : {B : Type 0} (kept : B → Kept) (filters : Filters) (gain : Gain) (n : ℕ) (old : MapChannelOf B) (bytes : List ℕ) (new : ChainOf B) (pulled : Pulled) (out_old out_new : List ℤ) → IsMapPlanned filters old
+    → PullsPiece kept filters gain n old bytes new pulled out_old out_new
+    → take (n * channels_of old.path.device.mix.layout) out_new ≡ interleaved (outs (play_plan_between (seen filters old.path.device) old.book.opening.settings) filters gain (frames old.book.opening.settings (bytes ++ taken_for filters n old)) old.book.given n)
+piece-front kept filters gain n old bytes new pulled out_old out_new planned p =
+    let settings : Settings = old.book.opening.settings in
+    let size : ℕ = channels_of old.path.device.mix.layout in
+    let plan : PlanSeen = play_plan_between (seen filters old.path.device) settings in
+    let list : List Frame = frames settings (bytes ++ taken_for filters n old) in
+    let given : List Frame = outs plan filters gain list old.book.given n in
+    let have = outs-channels plan filters gain list old.book.given n (planned-fits filters old planned) (frames-channels settings (bytes ++ taken_for filters n old)) in
+    ap (take (n * size)) p.samples ∙ front-written size n given out_old have (length-outs plan filters gain list old.book.given n)
+
 -- what a piece leaves of a channel
 pub piece-gives : {B : Type 0} (kind : B → Kind) (kept : B → Kept) (filters : Filters) (n : ℕ) (old new : MapChannelOf B) (ring : Ring) (pulled : Pulled) (gain : Gain) (out_old out_new : List ℤ) → IsMapPlanned filters old → is_map_running old.book.state ≡ true
     → new.path.device ≡ old.path.device → new.area ≡ old.area → plan_in new.path.chain ≡ plan_in old.path.chain → (HaveKinds kind (boxes_in old.path.chain) → HaveKinds kind (boxes_in new.path.chain))
     → new.book ≡ book_giving filters n old → ring.bytes ≡ taken_for filters n old → gain ≡ map_gain old.book
-    → PullsOn kept filters gain false n old.book.opening.settings.format ring old.path.chain new.path.chain pulled out_old out_new → MapGives kind kept filters n old new out_new
-piece-gives {B = B} kind kept filters n old new ring pulled gain out_old out_new planned running device area plan kinds book taken gain_is pulls =
+    → PullsOn kept filters gain false n old.book.opening.settings.format ring old.path.chain new.path.chain pulled out_old out_new → MapStandsForSome kept filters old → MapGives kind kept filters n old new out_new
+piece-gives {B = B} kind kept filters n old new ring pulled gain out_old out_new planned running device area plan kinds book taken gain_is pulls some =
     let settings : Settings = old.book.opening.settings in
     let d : DeviceSeen = seen filters old.path.device in
     let rate : Rate = map_rate_at d old.book in
@@ -224,13 +248,12 @@ piece-gives {B = B} kind kept filters n old new ring pulled gain out_old out_new
                 let e : length bytes + length more ≡ taken_of (book_giving filters n old) = omega (arith, count, long, grows) in e) ∙ ap taken_of (sym book);
             chain_is = λ used. subst (λ (b : MapBook). ChainStands kept filters new.path.chain (frames b.opening.settings (bytes ++ more)) 0 b.given) (sym book) p.chain_is;
           };
+      fits =
+          let p = pulls-piece kept filters gain n old ring new.path.chain pulled out_old out_new planned running taken pulls some.bytes some.stands in
+          subst (All (FitsBits (bits_of old.path.device.mix.format))) (sym (piece-front kept filters gain n old some.bytes new.path.chain pulled out_old out_new planned p)) (interleaved-bits (bits_of old.path.device.mix.format) _ p.bits);
       samples_are = λ bytes s.
           let p = pulls-piece kept filters gain n old ring new.path.chain pulled out_old out_new planned running taken pulls bytes s in
-          let size : ℕ = channels_of old.path.device.mix.layout in
-          let list : List Frame = frames settings (bytes ++ more) in
-          let given : List Frame = outs (play_plan_between d settings) filters gain list old.book.given n in
-          let have = outs-channels (play_plan_between d settings) filters gain list old.book.given n (planned-fits filters old planned) (frames-channels settings (bytes ++ more)) in
-          ap (take (n * size)) p.samples ∙ front-written size n given out_old have (length-outs (play_plan_between d settings) filters gain list old.book.given n)
+          piece-front kept filters gain n old bytes new.path.chain pulled out_old out_new planned p
           ∙ ap (λ (g : Gain). given_samples d g settings (bytes ++ more) old.book.given n) gain_is;
     }
 
@@ -251,6 +274,7 @@ gives-nothing kind kept filters channel samples planned =
       plan = refl;
       kinds = λ h. h;
       stands = λ bytes s. subst (MapStands kept filters channel channel.book) (sym (ap (λ (more : List ℕ). bytes ++ more) nothing ∙ append-nil bytes)) s;
+      fits = subst (λ (k : ℕ). All (FitsBits (bits_of channel.path.device.mix.format)) (take k samples)) (sym start) (All-nil (FitsBits (bits_of channel.path.device.mix.format)));
       samples_are = λ bytes s. ap (λ (k : ℕ). take k samples) start;
     }
 
@@ -282,6 +306,11 @@ gives-more {B = B} kind kept filters a b old mid new samples piece planned g h r
     let behind = subst (λ (book : MapBook). taken_of first ≤ taken_of book) (gives-add rate a b old.book) (taken-grows rate b first near.ratio refl) in
     let all : taken_for filters (a + b) old ≡ taken_for filters a old ++ taken_for filters b mid =
     between-add area (taken_of old.book) (taken_of first) (taken_of last) before behind ∙ ap (λ (more : List ℕ). taken_for filters a old ++ more) (sym taken_mid) in
+    let parts : (a + b) * size ≡ a * size + b * size = omega arith in
+    let long : length (take (a * size) samples) ≡ a * size = length-take-le (a * size) samples room in
+    let split : (a + b) * size ≡ length (take (a * size) samples) + b * size = omega (arith, parts, long) in
+    let front_and_back : take ((a + b) * size) (take (a * size) samples ++ piece) ≡ take (a * size) samples ++ take (b * size) piece =
+    ap (λ (k : ℕ). take k (take (a * size) samples ++ piece)) split ∙ take-append-add (take (a * size) samples) piece (b * size) in
     record {
       book = h.book ∙ giving;
       device = h.device ∙ g.device;
@@ -290,15 +319,17 @@ gives-more {B = B} kind kept filters a b old mid new samples piece planned g h r
       kinds = λ have. h.kinds (g.kinds have);
       stands = λ bytes s. subst (MapStands kept filters new new.book) (append_assoc bytes (taken_for filters a old) (taken_for filters b mid) ∙ ap (λ (more : List ℕ). bytes ++ more) (sym all))
           (h.stands (bytes ++ taken_for filters a old) (g.stands bytes s));
+      fits =
+          let Fits : List ℤ → Type 0 = All (FitsBits (bits_of old.path.device.mix.format)) in
+          subst Fits (sym front_and_back)
+          (All-append (FitsBits (bits_of old.path.device.mix.format)) (take (a * size) samples) (take (b * size) piece) g.fits
+          (subst (λ (device : Device). All (FitsBits (bits_of device.mix.format)) (take (b * channels_of device.mix.layout) piece)) g.device h.fits));
       samples_are = λ bytes s.
           let t : List ℕ = bytes ++ taken_for filters a old in
           let stands = g.stands bytes s in
           let whole : t ++ taken_for filters b mid ≡ bytes ++ taken_for filters (a + b) old = append_assoc bytes (taken_for filters a old) (taken_for filters b mid) ∙ ap (λ (more : List ℕ). bytes ++ more) (sym all) in
           let count : length t ≡ need rate (old.book.given + a) * frame_bytes settings = stands.count ∙ ap taken_of g.book in
           let allowed = subst (λ (k : ℕ). old.book.given + a ≤ can rate (whole_frames settings k)) (sym count) (given-allowed rate settings (old.book.given + a) near.ratio) in
-          let parts : (a + b) * size ≡ a * size + b * size = omega arith in
-          let long : length (take (a * size) samples) ≡ a * size = length-take-le (a * size) samples room in
-          let split : (a + b) * size ≡ length (take (a * size) samples) + b * size = omega (arith, parts, long) in
           let size_mid : b * size ≡ b * channels_of mid.path.device.mix.layout = ap (λ (device : Device). b * channels_of device.mix.layout) (sym g.device) in
           let back : take (b * size) piece ≡ given_samples d gain settings (bytes ++ taken_for filters (a + b) old) (old.book.given + a) b =
           ap (λ (k : ℕ). take k piece) size_mid ∙ h.samples_are t stands
@@ -309,8 +340,7 @@ gives-more {B = B} kind kept filters a b old mid new samples piece planned g h r
           g.samples_are bytes s
           ∙ sym (samples-append d gain settings t (taken_for filters b mid) old.book.given a (planned-fits filters old planned) allowed)
           ∙ ap (λ (more : List ℕ). given_samples d gain settings more old.book.given a) whole in
-          ap (λ (k : ℕ). take k (take (a * size) samples ++ piece)) split
-          ∙ take-append-add (take (a * size) samples) piece (b * size)
+          front_and_back
           ∙ ap (λ (list : List ℤ). list ++ take (b * size) piece) front
           ∙ ap (λ (list : List ℤ). given_samples d gain settings (bytes ++ taken_for filters (a + b) old) old.book.given a ++ list) back
           ∙ sym (samples-add d gain settings (bytes ++ taken_for filters (a + b) old) old.book.given a b);

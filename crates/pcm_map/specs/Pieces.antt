@@ -1,5 +1,7 @@
 -- What a channel gives before it is mixed: its next frames, and the bytes that were taken of its area for them.
-use Rattle.std.specs.Prelude.{◌≡◌, ℕ, ◌-◌, ◌*◌, ℤ, List, ◌++◌, take}
+use Rattle.std.specs.Prelude.{◌≡◌, ℕ, ◌-◌, ◌*◌, ℤ, All, List, ◌++◌, take}
+use Rattle.pcm_num.specs.Limit.{FitsBits}
+use Rattle.pcm_format.specs.Formats.{bits_of}
 use Rattle.pcm_format.specs.Layouts.{channels_of}
 use Rattle.pcm_feeder.specs.declared.kind.Kind.{Kind}
 use Rattle.pcm_feeder.specs.Filters.{Filters}
@@ -29,7 +31,8 @@ abbrev pub samples_for : {B : Type 0} → Filters → ℕ → MapChannelOf B →
 samples_for filters n channel bytes =
     given_samples (seen filters channel.path.device) (map_gain channel.book) channel.book.opening.settings (bytes ++ taken_for filters n channel) channel.book.given n
 
--- A channel gave its next n frames, which stand at the front of samples: whatever bytes it had taken, it has taken these too.
+-- A channel gave its next n frames, which stand at the front of samples, with the bits of the mix: whatever bytes it had taken, it has
+-- taken these too.
 pub record MapGives {B : Type 0} (kind : B → Kind) (kept : B → Kept) (filters : Filters) (n : ℕ) (old new : MapChannelOf B) (samples : List ℤ) : Type 0 where
   pub book : new.book ≡ book_giving filters n old
   pub device : new.path.device ≡ old.path.device
@@ -37,5 +40,6 @@ pub record MapGives {B : Type 0} (kind : B → Kind) (kept : B → Kept) (filter
   pub plan : plan_in new.path.chain ≡ plan_in old.path.chain
   pub kinds : HasBoxes kind old.path → HasBoxes kind new.path
   pub stands : (bytes : List ℕ) → MapStands kept filters old old.book bytes → MapStands kept filters new new.book (bytes ++ taken_for filters n old)
+  pub fits : All (FitsBits (bits_of old.path.device.mix.format)) (take (n * channels_of old.path.device.mix.layout) samples)
   pub samples_are : (bytes : List ℕ) → MapStands kept filters old old.book bytes
       → take (n * channels_of old.path.device.mix.layout) samples ≡ samples_for filters n old bytes

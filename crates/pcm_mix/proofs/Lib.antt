@@ -1,2 +1,3 @@
 pub mod Blocks
-mod Limits
+mod Sums
+mod Vectors

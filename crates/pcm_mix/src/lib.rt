@@ -2,6 +2,8 @@
 //! Sums never wrap: what passes the range of the bits stops at its end.
 #![tactic(auto)]
 
+mod lanes;
+mod limits;
 mod mix;
 
 pub use mix::mix_into;

@@ -1,50 +1,66 @@
 //! The sum of two blocks.
-ghost use Rattle.std.specs.Prelude.{◌≡◌, ◌≤◌, ◌+ℤ◌, length, All};
-ghost use Rattle.std.specs.Int.{int_max, int_min};
-ghost use Rattle.pcm_num.specs.Limit.{FitsBits, least_of, greatest_of};
+ghost use Rattle.std.specs.Prelude.{◌≡◌, ◌≤◌, ◌<◌, length, take, drop, ◌++◌, All};
+ghost use Rattle.pcm_num.specs.Limit.{FitsBits};
 ghost use Rattle.pcm_mix.specs.Mix.{mixed};
 
-use pcm_num::clamp_bits;
+use crate::limits::Limits;
 
 /// Adds the samples of `add` to those of `acc`, each sum limited to `bits` bits.
 pub fn mix_into(acc: &mut [i32], add: &[i32], bits: u32)
     requires lengths { length acc.old ≡ length add.now }
     requires least { 1 ≤ bits }
     requires most { bits ≤ 32 }
+    requires held { All (FitsBits bits) acc.old }
+    requires added { All (FitsBits bits) add.now }
     ensures value { acc.new ≡ mixed bits acc.old add.now }
     ensures fits { All (FitsBits bits) acc.new }
 {
-    let least = least_sample(bits);
-    let greatest = greatest_sample(bits);
-    for (at, more) in add.iter().enumerate() {
-        acc[at] = sum_within(acc[at], *more, least, greatest);
+    if bits < 32 {
+        mix_within(acc, add, Limits::of(bits));
+    } else {
+        mix_within(acc, add, Limits::of(32));
     }
 }
 
-// The least sample of `bits` bits.
-fn least_sample(bits: u32) -> i32
-    requires least { 1 ≤ bits }
-    requires most { bits ≤ 32 }
-    ensures { result ≡ least_of bits }
+// Is copied for both ways to add, so that no loop asks which one it is.
+#[inline(always)]
+fn mix_within(acc: &mut [i32], add: &[i32], limits: Limits)
+    requires lengths { length acc.old ≡ length add.now }
+    requires held { All (FitsBits limits.bits) acc.old }
+    requires added { All (FitsBits limits.bits) add.now }
+    ensures value { acc.new ≡ mixed limits.bits acc.old add.now }
+    ensures fits { All (FitsBits limits.bits) acc.new }
 {
-    clamp_bits(i64::from(i32::MIN), bits)
+    let at = mix_lanes(acc, add, limits);
+    mix_samples(&mut acc[at..], &add[at..], limits);
 }
 
-// The greatest sample of `bits` bits.
-fn greatest_sample(bits: u32) -> i32
-    requires least { 1 ≤ bits }
-    requires most { bits ≤ 32 }
-    ensures { result ≡ greatest_of bits }
+// Mixes samples from the front, eight at a time, as many as that takes, and tells how many.
+#[inline(always)]
+fn mix_lanes(acc: &mut [i32], add: &[i32], limits: Limits) -> usize
+    requires lengths { length acc.old ≡ length add.now }
+    requires held { All (FitsBits limits.bits) acc.old }
+    requires added { All (FitsBits limits.bits) add.now }
+    ensures most { result ≤ length acc.old }
+    ensures value { acc.new ≡ mixed limits.bits (take result acc.old) (take result add.now) ++ drop result acc.old }
 {
-    clamp_bits(i64::from(i32::MAX), bits)
+    let mut at = 0;
+    while acc.len() - at >= 8 {
+        limits.mix_eight(&mut acc[at..], &add[at..]);
+        at += 8;
+    }
+    at
 }
 
-// The sum of two samples, or the end of the range that it passes. A sum past 32 bits stops at their
-// end first, and the limit takes it to the same end of the range. So no sample is widened, and the
-// compiler adds several at once. It is limited by `min` and `max`, which are an instruction each;
-// `clamp` isn't.
-fn sum_within(a: i32, b: i32, least: i32, greatest: i32) -> i32
-    ensures { result ≡ int_max least (int_min (a +ℤ b) greatest) }
+// Mixes samples one by one.
+#[inline(always)]
+fn mix_samples(acc: &mut [i32], add: &[i32], limits: Limits)
+    requires lengths { length acc.old ≡ length add.now }
+    requires held { All (FitsBits limits.bits) acc.old }
+    requires added { All (FitsBits limits.bits) add.now }
+    ensures { acc.new ≡ mixed limits.bits acc.old add.now }
 {
-    a.saturating_add(b).min(greatest).max(least)
+    for (at, more) in add.iter().enumerate() {
+        acc[at] = limits.sum(acc[at], *more);
+    }
 }

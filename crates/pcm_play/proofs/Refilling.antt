@@ -1,6 +1,7 @@
 -- What a refill leaves of a channel, from what a pull of its chain means.
-use Rattle.std.proofs.Common.{◌≡◌, ℕ, ◌+◌, ◌-◌, ◌*◌, ◌<◌, ◌≤◌, Bool, true, false, List, [], ◌++◌, length, take, drop, ℤ, sym, ap, ◌∙◌, subst, arith}
+use Rattle.std.proofs.Common.{◌≡◌, ℕ, ◌+◌, ◌-◌, ◌*◌, ◌<◌, ◌≤◌, Bool, true, false, List, [], ◌++◌, length, take, drop, ℤ, All, sym, ap, ◌∙◌, subst, arith}
 use Rattle.std.proofs.lemmas.List.{take-append-drop, drop_all}
+use Rattle.pcm_num.specs.Limit.{FitsBits}
 use Rattle.pcm_format.specs.declared.layout.Layout.{Layout}
 use Rattle.pcm_format.specs.declared.settings.Settings.{Settings}
 use Rattle.pcm_format.specs.Formats.{bits_of}
@@ -14,19 +15,22 @@ use Rattle.pcm_feeder.specs.Filters.{Filters}
 use Rattle.pcm_feeder.specs.declared.kind.Kind.{Kind}
 use Rattle.pcm_feeder.specs.Kept.{Kept}
 use Rattle.pcm_feeder.specs.Racks.{HaveKinds}
-use Rattle.pcm_feeder.specs.Limits.{IsRate}
+use Rattle.pcm_feeder.specs.Limits.{IsGain, IsRate}
 use Rattle.pcm_feeder.specs.Streams.{interleaved, written}
 use Rattle.pcm_mix.specs.Mix.{mixed}
 use Rattle.pcm_mixdev.specs.Fades.{faded}
+use Rattle.pcm_mixdev.proofs.FadedBits.{faded-fits}
+use Rattle.pcm_plan.specs.Fits.{HaveBits}
 use Rattle.pcm_plan.specs.Plans.{PlanSeen, rate_in_plan}
 use Rattle.pcm_plan.specs.Through.{outs}
 use Rattle.pcm_plan.proofs.Through.{outs-channels, length-outs}
 use Rattle.pcm_chain.specs.declared.chain.ChainOf.{ChainOf}
 use Rattle.pcm_chain.specs.declared.chain.Pulled.{Pulled}
+use Rattle.pcm_chain.specs.Bits.{bits_left}
 use Rattle.pcm_chain.specs.Chains.{boxes_in, plan_in, ChainStands}
 use Rattle.pcm_chain.specs.Pulls.{waiting_frames, IsPastTheEnd, Pulls, StandsBehind}
 use Rattle.pcm_desk.specs.declared.play_book.PlayBook.{PlayBook}
-use Rattle.pcm_desk.specs.Device.{DeviceSeen, IsDevice, filters_of, mix_settings, play_plan_between, seen}
+use Rattle.pcm_desk.specs.Device.{DeviceSeen, IsDevice, filters_of, mix_settings, play_plan_between, quality_of, seen}
 use Rattle.pcm_desk.specs.PlayBooks.{frames_written, giving, is_draining, is_started, play_fill_of, refilled}
 use Rattle.pcm_desk.specs.Channels.{mixing, play_rate_at}
 use Rattle.pcm_desk.proofs.Ratios.{plan-between-fits}
@@ -37,6 +41,8 @@ use Rattle.pcm_sound.proofs.DeviceLists.{frames-channels}
 use Rattle.pcm_sound.proofs.Stories.{IsSafeAt, safe-mixing}
 use Rattle.pcm_play.specs.declared.channel.PlayChannelOf.{PlayChannelOf}
 use Rattle.pcm_play.specs.Channels.{PlayStands, IsPlayPlanned, PlayMoves}
+use Rattle.pcm_chain.proofs.Bits.{bits-played}
+use Rattle.pcm_chain.proofs.Pushing.{interleaved-bits}
 use Rattle.pcm_chain.proofs.Waiting.{frames-waiting}
 use Rattle.pcm_oss.specs.declared.event.Way.TheVariants.{Play}
 use Rattle.pcm_path.proofs.Paths.{front-written, planned-as}
@@ -49,6 +55,7 @@ use Rattle.pcm_play.proofs.Refills.{Goes, PullsAsCounted, giving-none, refilled-
 pub record PullsRun {B : Type 0} (kept : B → Kept) (device : DeviceSeen) (gain : Gain) (n : ℕ) (book : PlayBook) (bytes : List ℕ) (new : ChainOf B) (pulled : Pulled) (out_old out_new : List ℤ) : Type 0 where
   pub counted : PullsAsCounted (play_rate_at device book) n book pulled
   pub samples : out_new ≡ written (outs (play_plan_between device book.opening.settings) (filters_of device) gain (frames book.opening.settings bytes) book.given pulled.given) out_old
+  pub bits : HaveBits (bits_of (mix_settings device).format) (outs (play_plan_between device book.opening.settings) (filters_of device) gain (frames book.opening.settings bytes) book.given pulled.given)
   pub behind : StandsBehind kept (filters_of device) (is_draining book.state) (drop book.eaten (frames book.opening.settings bytes)) new (take book.eaten (frames book.opening.settings bytes)) book.given pulled
 
 -- what a pull means, for whatever its chain stands for
@@ -87,6 +94,9 @@ pulls-run {B = B} kept filters old new gain no_more n pulled out_old out_new byt
           (rw (ap (λ (plan : PlanSeen). rate_in_plan plan) planned.plan_is) at p.far);
       samples = p.frames ∙ ap (λ (plan : PlanSeen). written (outs plan (filters_of device) gain (take book.eaten all ++ drop book.eaten all) book.given pulled.given) out_old) planned.plan_is
           ∙ ap (λ fs. written (outs (play_plan_between device book.opening.settings) (filters_of device) gain fs book.given pulled.given) out_old) (take-append-drop book.eaten all);
+      bits = subst (λ k. HaveBits k (outs (play_plan_between device book.opening.settings) (filters_of device) gain all book.given pulled.given)) (bits-played (filters_of device) (quality_of device) book.opening.settings (mix_settings device))
+          (subst (λ fs. HaveBits (bits_left (play_plan_between device book.opening.settings).stages) (outs (play_plan_between device book.opening.settings) (filters_of device) gain fs book.given pulled.given)) (take-append-drop book.eaten all)
+          (subst (λ (plan : PlanSeen). HaveBits (bits_left plan.stages) (outs plan (filters_of device) gain (take book.eaten all ++ drop book.eaten all) book.given pulled.given)) planned.plan_is p.bits));
       behind = p.stands;
     }
 
@@ -135,6 +145,29 @@ turned-none device n fader book bytes sum idle =
     sym (ap (λ (k : ℕ). mixed bits (take (k * size) sum) (samples k) ++ drop (k * size) sum) (giving-none (play_rate_at device book) n book idle)
     ∙ ap (λ (m : ℕ). mixed bits (take m sum) (samples 0) ++ drop m sum) none)
 
+-- the samples that a chain gave, which stand at the front of a buffer
+given-front : {B : Type 0} (kept : B → Kept) (device : DeviceSeen) (gain : Gain) (n : ℕ) (book : PlayBook) (bytes : List ℕ) (new : ChainOf B) (pulled : Pulled) (out_old out_new : List ℤ) → IsDevice device → IsRate book.opening.settings.rate
+    → PullsRun kept device gain n book bytes new pulled out_old out_new
+    → take (pulled.given * channels_of (mix_settings device).layout) out_new ≡ interleaved (outs (play_plan_between device book.opening.settings) (filters_of device) gain (frames book.opening.settings bytes) book.given pulled.given)
+given-front kept device gain n book bytes new pulled out_old out_new d rate p =
+    let c : ℕ = channels_of (mix_settings device).layout in
+    let plan : PlanSeen = play_plan_between device book.opening.settings in
+    let given : List Frame = outs plan (filters_of device) gain (frames book.opening.settings bytes) book.given pulled.given in
+    let have = outs-channels plan (filters_of device) gain (frames book.opening.settings bytes) book.given pulled.given (plan-between-fits device book.opening.settings d rate) (frames-channels book.opening.settings bytes) in
+    ap (take (pulled.given * c)) p.samples ∙ front-written c pulled.given given out_old have (length-outs plan (filters_of device) gain (frames book.opening.settings bytes) book.given pulled.given)
+
+-- they have the bits of the mix, also at a gain
+pub given-fits : {B : Type 0} (kept : B → Kept) (device : DeviceSeen) (gain fader : Gain) (n : ℕ) (book : PlayBook) (bytes : List ℕ) (new : ChainOf B) (pulled : Pulled) (out_old out_new : List ℤ) (size bits : ℕ)
+    → IsDevice device → IsRate book.opening.settings.rate → IsGain fader → PullsRun kept device gain n book bytes new pulled out_old out_new → size ≡ channels_of (mix_settings device).layout → bits ≡ bits_of (mix_settings device).format
+    → All (FitsBits bits) (faded (mix_settings device).layout fader (take (pulled.given * size) out_new))
+given-fits kept device gain fader n book bytes new pulled out_old out_new size bits d rate fades p size_is bits_is =
+    let deep : ℕ = bits_of (mix_settings device).format in
+    let plan : PlanSeen = play_plan_between device book.opening.settings in
+    let given : List Frame = outs plan (filters_of device) gain (frames book.opening.settings bytes) book.given pulled.given in
+    let front = given-front kept device gain n book bytes new pulled out_old out_new d rate p in
+    let fits : All (FitsBits deep) (take (pulled.given * channels_of (mix_settings device).layout) out_new) = subst (All (FitsBits deep)) (sym front) (interleaved-bits deep given p.bits) in
+    rw (size_is, bits_is) (faded-fits deep (mix_settings device).layout fader (take (pulled.given * channels_of (mix_settings device).layout) out_new) fades fits)
+
 -- what a channel adds to a block: the samples that its chain gave, at the gain of its slot
 pub turned-pulled : {B : Type 0} (kept : B → Kept) (device : DeviceSeen) (gain fader : Gain) (n : ℕ) (book : PlayBook) (bytes : List ℕ) (new : ChainOf B) (pulled : Pulled) (out_old out_new sum acc : List ℤ) (size bits : ℕ)
     → IsDevice device → IsRate book.opening.settings.rate → gain ≡ book_gain book → PullsRun kept device gain n book bytes new pulled out_old out_new → size ≡ channels_of (mix_settings device).layout → bits ≡ bits_of (mix_settings device).format
@@ -144,10 +177,7 @@ turned-pulled kept device gain fader n book bytes new pulled out_old out_new sum
     let c : ℕ = channels_of layout in
     let deep : ℕ = bits_of (mix_settings device).format in
     let onto : ℕ → List ℤ → List ℤ = λ k more. mixed deep (take (k * c) sum) (faded layout fader more) ++ drop (k * c) sum in
-    let given : List Frame = outs (play_plan_between device book.opening.settings) (filters_of device) gain (frames book.opening.settings bytes) book.given pulled.given in
-    let have = outs-channels (play_plan_between device book.opening.settings) (filters_of device) gain (frames book.opening.settings bytes) book.given pulled.given (plan-between-fits device book.opening.settings d rate) (frames-channels book.opening.settings bytes) in
-    let front : take (pulled.given * c) out_new ≡ interleaved given =
-    ap (take (pulled.given * c)) p.samples ∙ front-written c pulled.given given out_old have (length-outs (play_plan_between device book.opening.settings) (filters_of device) gain (frames book.opening.settings bytes) book.given pulled.given) in
+    let front = given-front kept device gain n book bytes new pulled out_old out_new d rate p in
     ap (λ a. a ++ drop (pulled.given * size) sum) acc_is
     ∙ ap (λ s. mixed bits (take (pulled.given * s) sum) (faded layout fader (take (pulled.given * s) out_new)) ++ drop (pulled.given * s) sum) size_is
     ∙ ap (λ b. mixed b (take (pulled.given * c) sum) (faded layout fader (take (pulled.given * c) out_new)) ++ drop (pulled.given * c) sum) bits_is

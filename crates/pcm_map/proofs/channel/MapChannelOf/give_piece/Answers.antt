@@ -96,5 +96,5 @@ returns g c =
     let filled = ring-filled filters c.args.n old c.refilled-book.result c.deref.result.now c.size.result c.taken.result c.frame_bytes.result c.put_round.new.ring is c.size.ensures c.deref.ensures.value c.taken.ensures c.frame_bytes.ensures c.put_round.ensures in
     record {
       gives = piece-gives g.B.Feeder.kind g.B.Feeder.kept filters c.args.n old _ c.put_round.new.ring c.pull.result c.gain_of-gain.result c.args.frames.now c.pull.new.out planned c.requires.running refl refl c.pull.ensures.plan c.pull.ensures.kinds is
-          (ap (λ (ring : Ring). ring.bytes) filled) c.gain_of-gain.ensures.value c.pull.ensures.pulls;
+          (ap (λ (ring : Ring). ring.bytes) filled) c.gain_of-gain.ensures.value c.pull.ensures.pulls c.requires.ready.stands;
     }

@@ -1,8 +1,11 @@
-use Rattle.std.proofs.Common.{◌%◌, sym, ap, ◌∙◌, subst, All}
+use Rattle.std.proofs.Common.{◌*◌, ◌%◌, sym, ap, ◌∙◌, subst, All, arith}
 use Rattle.std.proofs.Math.Nat.{mul-mod_left}
+use Rattle.std.proofs.lemmas.List.{take_all}
 use Rattle.pcm_num.specs.Limit.{FitsBits}
+use Rattle.pcm_format.specs.Formats.{bits_of}
 use Rattle.pcm_format.specs.Layouts.{channels_of}
 use Rattle.pcm_mix.specs.Mix.{mixed}
+use Rattle.pcm_mixdev.proofs.FadedBits.{faded-fits}
 use Rattle.pcm_desk.specs.Device.{seen}
 use Rattle.pcm_map.specs.Channels.{area_of}
 use Rattle.pcm_map.proofs.Books.{mixing-gives}
@@ -30,6 +33,17 @@ pub apply_gain-requires-clause-whole : goal.apply_gain-requires-clause-whole
 apply_gain-requires-clause-whole g c =
     let size = channels_of c.args.self.now.path.device.mix.layout in
     ap (λ k. k % size) (c.give.auto.frames ∙ c.requires.block.frames_whole) ∙ mul-mod_left c.args.n size
+
+pub mix_into-requires-clause-held : goal.mix_into-requires-clause-held
+mix_into-requires-clause-held g c = rw c.bits.ensures c.requires.block.fits
+
+pub mix_into-requires-clause-added : goal.mix_into-requires-clause-added
+mix_into-requires-clause-added g c =
+    let device = c.args.self.now.path.device in
+    let bits = bits_of device.mix.format in
+    let frames = c.give.new.frames in
+    let whole = take_all (c.args.n * channels_of device.mix.layout) frames (omega (arith, c.give.auto.frames, c.requires.block.frames_whole)) in
+    rw (c.bits.ensures, c.apply_gain.ensures) (faded-fits bits device.mix.layout c.args.slot_gain frames c.requires.gain (subst (All (FitsBits bits)) whole c.give.ensures.gives.fits))
 
 pub returns-clause-sum : goal.returns-clause-sum
 returns-clause-sum g c =

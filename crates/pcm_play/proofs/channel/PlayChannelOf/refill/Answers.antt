@@ -1,6 +1,6 @@
 use Rattle.std.proofs.Common.{refl, ℕ, ◌*◌, ◌%◌, ◌≤◌, ◌∙◌, All, [], take, drop, length, sym, ap, subst, arith, length-drop, length-take}
 use Rattle.std.proofs.Math.Nat.{mul-le-mul_right}
-use Rattle.std.proofs.lemmas.List.Elements.{All-append, All-drop}
+use Rattle.std.proofs.lemmas.List.Elements.{All-append, All-drop, All-take}
 use Rattle.pcm_num.specs.Limit.{FitsBits}
 use Rattle.pcm_format.specs.Formats.{bits_of, bytes_of}
 use Rattle.pcm_format.specs.Layouts.{channels_of}
@@ -17,7 +17,7 @@ use Rattle.pcm_desk.specs.PlaySafe.{PlayIsSafe}
 use Rattle.pcm_desk.proofs.Ratios.{tables-between}
 use Rattle.pcm_play.proofs.Held.{started-held}
 use Rattle.pcm_play.proofs.Moving.{device-is, moves-nothing, safe-at}
-use Rattle.pcm_play.proofs.Refilling.{pulls-run, book-mixed, book-refilled, turned-none, ring-refilled, turned-pulled, moves-pulled}
+use Rattle.pcm_play.proofs.Refilling.{given-fits, pulls-run, book-mixed, book-refilled, turned-none, ring-refilled, turned-pulled, moves-pulled}
 use Rattle.pcm_play.proofs.channel.PlayChannelOf.refill.Goals as goal
 
 pub returns-then-not-is_started-clause-moves : goal.returns-then-not-is_started-clause-moves
@@ -58,6 +58,19 @@ apply_gain-requires-clause-whole g c =
     let room : c.args.n * channels_of layout ≤ length c.pull-pulled.new.out = omega (arith, c.requires.block.frames_whole, c.pull-pulled.auto.out) in
     ap (λ k. length (take (given * k) c.pull-pulled.new.out) % channels_of layout) c.channels.ensures
     ∙ whole-front given c.args.n (channels_of layout) c.pull-pulled.new.out c.pull-pulled.ensures.most room
+
+pub mix_into-requires-clause-held : goal.mix_into-requires-clause-held
+mix_into-requires-clause-held g c =
+    rw c.bits.ensures (All-take (FitsBits (bits_of c.args.self.now.path.device.mix.format)) (c.pull-pulled.result.given * c.channels.result) c.args.sum.now c.requires.block.fits)
+
+pub mix_into-requires-clause-added : goal.mix_into-requires-clause-added
+mix_into-requires-clause-added g c =
+    let old = c.args.self.now in
+    let planned = c.requires.ready.planned (started-held c.args.self.now.book.state (sym c.if-not-is_started.ensures)) in
+    let p = pulls-run g.B.Feeder.kept c.args.tables.now old c.pull-pulled.new.self _ c.is_draining-ended.result c.args.n c.pull-pulled.result c.args.frames.now c.pull-pulled.new.out c.requires.ready.stands.bytes
+    (sym c.if-not-is_started.ensures) planned c.is_draining-ended.ensures c.pull-pulled.ensures.pulls c.requires.ready.stands.stands in
+    rw c.apply_gain.ensures (given-fits g.B.Feeder.kept (seen c.args.tables.now old.path.device) c.gain_of-gain.result c.args.slot_gain c.args.n old.book c.requires.ready.stands.bytes c.pull-pulled.new.self c.pull-pulled.result c.args.frames.now c.pull-pulled.new.out c.channels.result c.bits.result
+    (device-is c.args.tables.now old planned) old.serves.rate c.requires.gain p c.channels.ensures c.bits.ensures)
 
 pub invariant_of-self : goal.invariant_of-self
 invariant_of-self g c =
