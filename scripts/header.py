@@ -9,7 +9,7 @@ import re
 from reading import ROOT, code_of, sources
 
 HEADER, RAW, CALLS = (ROOT / "embed" / it for it in ("dsp_engine.h", "dsp_raw.h", "dsp_engine.c"))
-LIBRARY = ("pcm_engine_c", "pcm_session", "pcm_numbers")
+LIBRARY = ("pcm_engine_c", "pcm_session", "pcm_foreign")
 # the structs of C, and what they are in Rattle
 STRUCTS = {
     "dsp_engine": "Handle",

@@ -11,7 +11,7 @@ from reading import FUNCTION, ROOT, below, body_of, closing, code_of, listed, so
 
 TAKES = ROOT / "scripts" / "takes-memory.txt"
 # what events and calls go through, besides the stages
-ROOTS = ("pcm_engine", "pcm_report", "pcm_session", "pcm_engine_c", "pcm_outside", "pcm_converting", "pcm_soaking", "pcm_replay")
+ROOTS = ("pcm_engine", "pcm_report", "pcm_session", "pcm_engine_c", "pcm_outside", "pcm_convert_command", "pcm_soak_command", "pcm_replay")
 # the types that take memory, and what asks a value for its allocator or makes it take from that
 MEMORY = (
     r"\b(?:Vec|VecDeque|String|Rc|Arc|LinkedList|BTree\w+|HashMap|HashSet|Heap\w+|BoxedSlice|BoxedStr"

@@ -7,7 +7,7 @@ use Rattle.std.proofs.lemmas.Int.{ints}
 use Rattle.std.proofs.lemmas.List.{get_or-drop, get_or-take, length-take-le, length-drop, length-append}
 use Rattle.std.proofs.lemmas.List.FromFn.{fill_by_all, length-map-range_with_len}
 use Rattle.std.proofs.Math.Nat.{mul-le-mul_right}
-use Rattle.pcm_fixed.specs.Fixed.{fixed_items}
+use Rattle.pcm_sequence.specs.Fixed.{fixed_items}
 use Rattle.pcm_format.specs.Frames.{Frame}
 use Rattle.pcm_format.proofs.Ranges.{map-range-same}
 use Rattle.pcm_feeder.specs.declared.table.Table.{Table}

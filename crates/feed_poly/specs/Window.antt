@@ -1,6 +1,6 @@
 -- What a contract sees of a `Window`: its frames, the oldest first.
 use Rattle.std.specs.Prelude.{ℕ, ℤ, List, take, drop}
-use Rattle.pcm_fixed.specs.Fixed.{fixed_items}
+use Rattle.pcm_sequence.specs.Fixed.{fixed_items}
 use Rattle.pcm_format.specs.Frames.{Frame}
 use Rattle.pcm_feeder.specs.Streams.{frames_of, moved_on}
 use Rattle.feed_poly.specs.Places.{frames_from}

@@ -22,7 +22,7 @@ pub struct Polyphase {
 
 impl Interpolator for Polyphase {
     ghost use Rattle.std.specs.Prelude.{◌+◌, true};
-    ghost use Rattle.pcm_fixed.specs.Fixed.{fixed_items};
+    ghost use Rattle.pcm_sequence.specs.Fixed.{fixed_items};
     ghost use Rattle.pcm_feeder.specs.declared.kind.Kind.TheVariants as kinds;
     ghost use Rattle.feed_rate.specs.Methods.Method.{ByFilter};
     ghost use Rattle.feed_poly.specs.Window.{window_frames};

@@ -1,14 +1,14 @@
 //! The last frames of a stream.
 
 ghost use Rattle.std.specs.Prelude.{◌≡◌, ◌<◌, ◌≤◌, ◌+◌, ◌*◌, [], ◌∷◌, length, replicate, IfOk};
-ghost use Rattle.pcm_fixed.specs.Fixed.{fixed_items, fixed_len};
+ghost use Rattle.pcm_sequence.specs.Fixed.{fixed_items, fixed_len};
 ghost use Rattle.pcm_feeder.specs.Limits.{AreChannels};
 ghost use Rattle.pcm_feeder.specs.declared.limits.TheConstants.{TAPS};
 ghost use Rattle.pcm_feeder.specs.Streams.{silence, moved_on};
 ghost use Rattle.feed_poly.specs.Places.{IsTwice, ArePut};
 ghost use Rattle.feed_poly.specs.Rows.{channel_in};
 
-use pcm_fixed::Fixed;
+use pcm_sequence::Fixed;
 use std::alloc::{AllocError, Global};
 
 // The places of one channel: two for each frame.

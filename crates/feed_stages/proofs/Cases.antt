@@ -3,7 +3,7 @@ use Rattle.pcm_feeder.specs.declared.kind.Kind.{Kind}
 use Rattle.pcm_feeder.specs.declared.kind.Kind.TheVariants as kinds
 use Rattle.pcm_feeder.specs.declared.rack.SevenOf.{SevenOf}
 use Rattle.pcm_feeder.specs.Racks.{HaveKinds}
-use Rattle.feed_any.specs.Stages.{by_stage}
+use Rattle.feed_stages.specs.Stages.{by_stage}
 use Rattle.feed_stages.specs.declared.stage.Stage.{Stage}
 
 -- the kind of a stage, where each case holds one of its own kind

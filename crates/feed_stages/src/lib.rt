@@ -2,6 +2,7 @@
 //! Each place of a rack has the stage of its kind.
 #![tactic(auto)]
 
+mod any;
 mod racks;
 mod stage;
 

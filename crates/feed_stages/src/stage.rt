@@ -3,7 +3,7 @@
 ghost use Rattle.std.specs.Prelude.{◌≡◌, IfOk};
 ghost use Rattle.pcm_feeder.specs.Racks.{HaveKinds};
 
-use feed_any::AnyOf;
+use crate::any::AnyOf;
 use feed_eq::EqFeeder;
 use feed_format::DepthFeeder;
 use feed_hold::HoldFeeder;

@@ -11,7 +11,7 @@ use Rattle.pcm_feeder.specs.Layouts.{at_gain}
 use Rattle.pcm_feeder.specs.Streams.{frames_of, written}
 use Rattle.pcm_feeder.proofs.Frames.{frames_of-channels, interleaved-take}
 use Rattle.pcm_feeder.proofs.Mapped.{frames-there}
-use Rattle.pcm_gain.proofs.Products.{unity-same}
+use Rattle.pcm_feeder.proofs.AtGains.{unity-same}
 
 -- ---- a gain of one on both sides
 

@@ -2,7 +2,7 @@
 use Rattle.std.specs.Prelude.{ℕ, ℤ, List, length, map, take}
 use Rattle.pcm_format.specs.Frames.{Frame}
 use Rattle.pcm_feeder.specs.Streams.{frames_of}
-use Rattle.pcm_gain.specs.Gains.{at_gains}
+use Rattle.pcm_feeder.specs.Gains.{at_gains}
 
 -- the first n frames of samples, each times the gains of its channels
 abbrev pub first_at_gains : List ℕ → ℕ → List ℤ → List Frame

@@ -2,12 +2,11 @@
 
 ghost use Rattle.std.specs.Prelude.{◌≡◌, ◌<◌, ◌≤◌, ◌*◌, length};
 ghost use Rattle.pcm_feeder.specs.Streams.{written};
-ghost use Rattle.pcm_gain.specs.Gains.{AreGains};
+ghost use Rattle.pcm_feeder.specs.Gains.{AreGains};
 ghost use Rattle.feed_volume.specs.Gains.{first_at_gains};
 
-use pcm_feeder::{FrameMap, Gain, Kind, MapFeeder, Spec};
+use pcm_feeder::{FrameMap, Gain, Kind, MapFeeder, Spec, put_frame, side_gains};
 use pcm_format::Layout;
-use pcm_gain::{put_frame, side_gains};
 
 /// Multiplies each sample by the gain of its side.
 pub type VolumeFeeder = MapFeeder<Volume>;

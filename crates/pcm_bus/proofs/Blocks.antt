@@ -9,7 +9,7 @@ use Rattle.pcm_format.specs.Formats.{bits_of}
 use Rattle.pcm_format.specs.Layouts.{channels_of}
 use Rattle.pcm_format.proofs.Ranges.{range-add}
 use Rattle.pcm_mix.specs.Mix.{mixed}
-use Rattle.pcm_mixdev.specs.Fades.{faded}
+use Rattle.pcm_feeder.specs.Fades.{faded}
 use Rattle.pcm_desk.specs.declared.play_book.PlayBook.{PlayBook}
 use Rattle.pcm_desk.specs.declared.map_book.MapBook.{MapBook}
 use Rattle.pcm_desk.specs.Device.{DeviceSeen, mix_settings}

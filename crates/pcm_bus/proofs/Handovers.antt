@@ -27,7 +27,7 @@ use Rattle.pcm_chain.specs.Pushes.{pushed_frames}
 use Rattle.pcm_chain.proofs.Level.{passed-by}
 use Rattle.pcm_chain.proofs.Pushing.{count-frames, frames_of-bits, interleaved-bits}
 use Rattle.pcm_desk.specs.Channels.{mixed_by}
-use Rattle.pcm_desk.specs.Device.{DeviceSeen, IsDevice, device_settings, filters_of, is_straight, mix_settings, parent_plan}
+use Rattle.pcm_desk.specs.Device.{DeviceSeen, IsDevice, device_settings, device_filters, is_straight, mix_settings, parent_plan}
 use Rattle.pcm_desk.proofs.Ratios.{mixed-behind, parent-bits}
 use Rattle.pcm_desk.proofs.Straight.{straight-behind, straight-by, straight-channels, straight-count, straight-each}
 use Rattle.pcm_bus.specs.Handovers.{AreMixedFor, CanMake, HasMade, IsPlannedBy, MakesOn, raised_frames}
@@ -91,7 +91,7 @@ raised-count device samples handed n mixed =
 
 -- one that begins has made nothing yet
 pub made-nothing : {B : Type 0} (kept : B → Kept) (device : DeviceSeen) (chain : ChainOf B)
-    → GivesExactly kept (filters_of device) chain [] 0 → HasMade kept device chain [] 0
+    → GivesExactly kept (device_filters device) chain [] 0 → HasMade kept device chain [] 0
 made-nothing kept device chain begins = record {
   bits = All-nil (λ (frame : Frame). All (FitsBits 32) frame);
   channels = All-nil (λ (frame : Frame). length frame ≡ channels_of (mix_settings device).layout);
@@ -103,7 +103,7 @@ made-nothing kept device chain begins = record {
 made-more : {B : Type 0} (kept : B → Kept) (device : DeviceSeen) (old new : ChainOf B) (samples : List ℤ) (n : ℕ)
     (x : List Frame) (handed : ℕ) → IsDevice device → All (FitsBits (bits_of (mix_settings device).format)) samples
     → HasMade kept device old x handed → AreMixedFor device samples handed n
-    → GivesExactly kept (filters_of device) new (x ++ raised_frames device samples) (handed + n)
+    → GivesExactly kept (device_filters device) new (x ++ raised_frames device samples) (handed + n)
     → HasMade kept device new (x ++ raised_frames device samples) (handed + n)
 made-more kept device old new samples n x handed is fits made mixed exactly =
     let c = channels_of (mix_settings device).layout in
@@ -128,18 +128,18 @@ straight-makes kept device chain samples n planned straight fits x handed made m
     let c = channels_of (mix_settings device).layout in
     let frames = frames_of c samples in
     let all = x ++ raised_frames device samples in
-    let given : ℕ → ℕ → List Frame = recs (parent_plan device) (filters_of device) all in
+    let given : ℕ → ℕ → List Frame = recs (parent_plan device) (device_filters device) all in
     let from : length x ≡ handed = made.count ∙ straight-count device handed straight in
     let count : length frames ≡ n = mixed-frames device samples handed n mixed ∙ straight-by device handed n straight in
     let more = raised_frames device samples in
     let each : All TurnsEach (plan_in chain).stages = subst (λ (plan : PlanSeen). All TurnsEach plan.stages) (sym planned.plan_is) (straight-each device straight) in
     let have : HaveChannels (channels_of (plan_in chain).source) more = subst (λ (plan : PlanSeen). HaveChannels (channels_of plan.source) more) (sym planned.plan_is) (raised-channels device samples) in
     let long : length more ≡ n = raised-count device samples handed n mixed ∙ straight-by device handed n straight in
-    let passed = passed-by kept (filters_of device) chain x more handed each have made.exactly in
+    let passed = passed-by kept (device_filters device) chain x more handed each have made.exactly in
     let whole : length samples % c ≡ 0 = ap (λ k. k % c) mixed ∙ mul-mod_left (mixed_by device handed n) c in
     record {
       made = made-more kept device chain chain samples n x handed planned.limits fits made mixed
-          (subst (λ k. GivesExactly kept (filters_of device) chain all (handed + k)) long passed);
+          (subst (λ k. GivesExactly kept (device_filters device) chain all (handed + k)) long passed);
       frames = sym (ap interleaved (ap (λ k. given k n) (sym from) ∙ ap (given (length x)) (sym count)
           ∙ straight-behind device x frames straight) ∙ interleaved-frames_of c samples whole);
     }
@@ -178,7 +178,7 @@ just-enough device plan samples handed n is mixed =
 -- so the chain may be handed it
 pub can-give : {B : Type 0} (kept : B → Kept) (device : DeviceSeen) (chain : ChainOf B) (samples out : List ℤ) (n : ℕ)
     → IsPlannedBy device chain → length out ≡ n * channels_of (device_settings device).layout → CanMake kept device chain samples n
-    → CanGive kept (filters_of device) chain (raised device samples) (filling_frames (plan_in chain) out)
+    → CanGive kept (device_filters device) chain (raised device samples) (filling_frames (plan_in chain) out)
 can-give kept device chain samples out n planned long can = record {
   frames = can.frames;
   given = can.handed;
@@ -193,10 +193,10 @@ pub chain-makes : {B : Type 0} (kept : B → Kept) (device : DeviceSeen) (old ne
     (samples out given : List ℤ) (n : ℕ) → IsPlannedBy device old
     → All (FitsBits (bits_of (mix_settings device).format)) samples
     → length out ≡ n * channels_of (device_settings device).layout
-    → GivesOn kept (filters_of device) (raised device samples) (filling_frames (plan_in old) out) old new given
+    → GivesOn kept (device_filters device) (raised device samples) (filling_frames (plan_in old) out) old new given
     → MakesOn kept device samples n old new given
 chain-makes {B = B} kept device old new samples out given n planned fits long gives x handed made mixed =
-    let tables = filters_of device in
+    let tables = device_filters device in
     let plan = plan_in old in
     let pushed = pushed_frames plan (raised device samples) in
     let more = raised_frames device samples in
@@ -226,5 +226,5 @@ made-bits kept device old new samples given n is can makes =
     let all = can.frames ++ raised_frames device samples in
     let m = makes can.frames can.handed can.made can.enough in
     subst (All (FitsBits bits)) (sym m.frames)
-    (interleaved-bits bits (recs (parent_plan device) (filters_of device) all can.handed n)
+    (interleaved-bits bits (recs (parent_plan device) (device_filters device) all can.handed n)
     (parent-bits device is all can.handed n m.made.bits))

@@ -7,7 +7,7 @@ use Rattle.pcm_plan.specs.Through.{recs}
 use Rattle.pcm_chain.specs.declared.chain.ChainOf.{ChainOf}
 use Rattle.pcm_mixdev.specs.Mixers.{Levels}
 use Rattle.pcm_desk.specs.Channels.{mixed_by}
-use Rattle.pcm_desk.specs.Device.{DeviceSeen, device_settings, filters_of, parent_plan}
+use Rattle.pcm_desk.specs.Device.{DeviceSeen, device_settings, device_filters, parent_plan}
 use Rattle.pcm_play.specs.declared.channel.PlayChannelOf.{PlayChannelOf}
 use Rattle.pcm_map.specs.declared.channel.MapChannelOf.{MapChannelOf}
 use Rattle.pcm_bus.specs.Blocks.{AllStand, Sources, turned_ring, whole_block}
@@ -26,10 +26,10 @@ mixed_at_once device handed n mixer channels maps sources = raised_frames device
 -- device's ring gets the plan's next frames over them.
 pub record TurnsTo {B : Type 0} (kept : B → Kept) (device : DeviceSeen) (handed n : ℕ) (chain : ChainOf B) (all : List Frame) (old new : List ℕ) : Type 0 where
   pub made : HasMade kept device chain all (handed + n)
-  pub ring : new ≡ turned_ring (device_settings device) n (interleaved (recs (parent_plan device) (filters_of device) all handed n)) old
+  pub ring : new ≡ turned_ring (device_settings device) n (interleaved (recs (parent_plan device) (device_filters device) all handed n)) old
 
 -- it means that whatever the channels stand for, and whatever frames were mixed before
 abbrev pub TurnsBus : {B : Type 0} → (B → Kept) → DeviceSeen → ℕ → ℕ → Levels → List (PlayChannelOf B) → List (MapChannelOf B) → ChainOf B → ChainOf B → List ℕ → List ℕ → Type 0
 TurnsBus kept device handed n mixer channels maps old new bytes after = (sources : Sources) (x : List Frame)
-    → AllStand kept (filters_of device) channels maps sources → HasMade kept device old x handed
+    → AllStand kept (device_filters device) channels maps sources → HasMade kept device old x handed
     → TurnsTo kept device handed n new (x ++ mixed_at_once device handed n mixer channels maps sources) bytes after

@@ -10,7 +10,7 @@ use Rattle.pcm_chain.specs.declared.chain.ChainOf.{ChainOf}
 use Rattle.pcm_chain.specs.Chains.{plan_in}
 use Rattle.pcm_chain.specs.Gives.{GivesExactly}
 use Rattle.pcm_desk.specs.Channels.{mixed_by}
-use Rattle.pcm_desk.specs.Device.{DeviceSeen, IsDevice, filters_of, full_frame, mix_settings, mixed_for, parent_plan}
+use Rattle.pcm_desk.specs.Device.{DeviceSeen, IsDevice, device_filters, full_frame, mix_settings, mixed_for, parent_plan}
 
 -- the device is within its limits, and a chain goes by the plan from its mix to it
 pub record IsPlannedBy {B : Type 0} (device : DeviceSeen) (chain : ChainOf B) : Type 0 where
@@ -34,7 +34,7 @@ pub record HasMade {B : Type 0} (kept : B → Kept) (device : DeviceSeen) (chain
   pub bits : HaveBits 32 x
   pub channels : HaveChannels (channels_of (mix_settings device).layout) x
   pub count : length x ≡ mixed_for device handed
-  pub exactly : GivesExactly kept (filters_of device) chain x handed
+  pub exactly : GivesExactly kept (device_filters device) chain x handed
 
 -- the chain has made what was handed over of some frames, and the samples are those that are mixed for n more
 pub record CanMake {B : Type 0} (kept : B → Kept) (device : DeviceSeen) (chain : ChainOf B)
@@ -50,7 +50,7 @@ pub record MakesMore {B : Type 0} (kept : B → Kept) (device : DeviceSeen) (sam
     (chain : ChainOf B) (x : List Frame) (handed : ℕ) (given : List ℤ) : Type 0 where
   pub made : HasMade kept device chain (x ++ raised_frames device samples) (handed + n)
   pub frames : given ≡ interleaved
-      (recs (parent_plan device) (filters_of device) (x ++ raised_frames device samples) handed n)
+      (recs (parent_plan device) (device_filters device) (x ++ raised_frames device samples) handed n)
 
 -- it means that whatever frames were mixed and handed over before
 abbrev pub MakesOn : {B : Type 0} → (B → Kept) → DeviceSeen → List ℤ → ℕ

@@ -1,7 +1,7 @@
 //! The way from the channels that play to the device: what is mixed, and the chain that makes the device's frames of it.
 
 ghost use Rattle.std.specs.Prelude.{◌≡◌, ◌+◌, ◌*◌, ◌^◌, ◌<◌, ◌≤◌, [], length, take, All, IfOk};
-ghost use Rattle.pcm_fixed.specs.Fixed.{fixed_len};
+ghost use Rattle.pcm_sequence.specs.Fixed.{fixed_len};
 ghost use Rattle.pcm_format.specs.Frames.{frame_bytes};
 ghost use Rattle.pcm_format.specs.Layouts.{channels_of};
 ghost use Rattle.pcm_feeder.specs.Racks.{IsRack};
@@ -19,12 +19,12 @@ use crate::mix::{mix_block, turn_ring};
 use pcm_chain::ChainOf;
 use pcm_desk::{Device, Here};
 use pcm_feeder::{Feeder, RackOf, Tables};
-use pcm_fixed::Fixed;
 use pcm_map::MapChannelOf;
 use pcm_mixdev::MixDev;
 use pcm_plan::plan_record;
 use pcm_play::PlayChannelOf;
 use pcm_ring::ByteRing;
+use pcm_sequence::Fixed;
 use std::alloc::{AllocError, Global};
 
 /// The chain between the mix and the device, and room for what an interrupt mixes, for one channel's part of it, for the frames

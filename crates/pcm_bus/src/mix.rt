@@ -17,10 +17,10 @@ ghost use Rattle.pcm_bus.specs.Slots.{AreMixed, AreTaken, AtSlot, ChangesAt, IsM
 ghost use Rattle.pcm_bus.specs.Blocks.{map_gains, silent_ring, turned_ring, MapsOnto, MixesBlock, MixesOnto};
 
 use pcm_desk::{Device, Here};
-use pcm_feeder::{Feeder, Gain, Tables};
+use pcm_feeder::{Feeder, Gain, Tables, apply_gain};
 use pcm_format::{Settings, spell_frames};
 use pcm_map::MapChannelOf;
-use pcm_mixdev::{MixDev, apply_gain};
+use pcm_mixdev::MixDev;
 use pcm_play::PlayChannelOf;
 use pcm_ring::ByteRing;
 use std::alloc::{AllocError, Global};

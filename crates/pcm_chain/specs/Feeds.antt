@@ -10,7 +10,7 @@ use Rattle.pcm_feeder.specs.Streams.{frames_of, written}
 use Rattle.pcm_feeder.specs.Turns.{Turn, turn, fed}
 use Rattle.pcm_feeder.specs.Stages.{channels_in}
 use Rattle.pcm_feeder.specs.declared.rack.SevenOf.{SevenOf}
-use Rattle.pcm_fixed.specs.Fixed.{fixed_items}
+use Rattle.pcm_sequence.specs.Fixed.{fixed_items}
 use Rattle.pcm_plan.specs.Fits.{Follow, HaveBits}
 use Rattle.pcm_chain.specs.declared.staging.Staging.{Staging}
 use Rattle.pcm_chain.specs.Bits.{bits_left}

@@ -2,7 +2,7 @@
 
 ghost use Rattle.std.specs.Prelude.{◌≡◌, ◌≤◌, ◌*◌};
 ghost use Rattle.std.proofs.Props.{props};
-ghost use Rattle.pcm_fixed.specs.Fixed.{fixed_len};
+ghost use Rattle.pcm_sequence.specs.Fixed.{fixed_len};
 ghost use Rattle.pcm_plan.specs.Plans.{rate_in_plan};
 ghost use Rattle.pcm_chain.specs.Counts.{AreBounded};
 ghost use Rattle.pcm_chain.specs.declared.staging.TheConstants.{BLOCK_SAMPLES};
@@ -11,10 +11,10 @@ use crate::counts::Counts;
 use crate::stages::{feed_stages, fit_stages};
 use crate::staging::{BLOCK_SAMPLES, Staging};
 use pcm_feeder::{Feeder, Gain, RackOf, SevenOf, Tables, UNITY};
-use pcm_fixed::Fixed;
 use pcm_format::{Format, Layout};
 use pcm_plan::Plan;
 use pcm_ring::ByteRing;
+use pcm_sequence::Fixed;
 use std::alloc::{AllocError, Global};
 
 /// How many frames are pushed at once, at most.

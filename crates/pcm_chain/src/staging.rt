@@ -1,7 +1,7 @@
 //! Where the frames of a block lie between its stages.
 
 ghost use Rattle.std.specs.Prelude.{◌≡◌, ◌≤◌, ◌+◌, ◌*◌, ◌/◌, min, length, take, All};
-ghost use Rattle.pcm_fixed.specs.Fixed.{fixed_items, fixed_len};
+ghost use Rattle.pcm_sequence.specs.Fixed.{fixed_items, fixed_len};
 ghost use Rattle.pcm_num.specs.Limit.{FitsBits};
 ghost use Rattle.pcm_format.specs.Formats.{bits_of, bytes_of};
 ghost use Rattle.pcm_format.specs.Samples.{samples, spelled};
@@ -10,9 +10,9 @@ ghost use Rattle.pcm_chain.specs.Rings.{staged, with_samples, without_bytes};
 ghost use Rattle.pcm_feeder.specs.Limits.{AreChannels};
 ghost use Rattle.pcm_chain.specs.declared.staging.TheConstants.{BLOCK_FRAMES, BLOCK_SAMPLES, BLOCK_BYTES};
 
-use pcm_fixed::Fixed;
 use pcm_format::{Format, load_frames, spell_frames};
 use pcm_ring::ByteRing;
+use pcm_sequence::Fixed;
 use std::alloc::{AllocError, Global};
 
 /// How many frames go through the stages at once, at most.

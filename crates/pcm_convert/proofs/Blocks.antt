@@ -12,7 +12,7 @@ use Rattle.pcm_format.proofs.Streams.{length-frames}
 use Rattle.pcm_format.proofs.Whole.{frames_fit, frames_there, whole_frames-mono}
 use Rattle.pcm_rate.specs.Rates.{can, len, need}
 use Rattle.pcm_feeder.specs.declared.stage.Gain.{Gain}
-use Rattle.pcm_feeder.specs.Filters.{Filters}
+use Rattle.pcm_feeder.specs.Filters.{Filters, no_filters}
 use Rattle.pcm_feeder.specs.Kept.{Kept}
 use Rattle.pcm_feeder.specs.Layouts.{unity}
 use Rattle.pcm_feeder.specs.Limits.{AreFilters, IsRate, IsSection, IsTable}
@@ -29,7 +29,6 @@ use Rattle.pcm_chain.specs.Chains.{ChainStands, plan_in}
 use Rattle.pcm_chain.specs.Counts.{allowed_in_all}
 use Rattle.pcm_chain.specs.Pulls.{IsPastTheEnd, Pulls, PullsAsFar, waiting_frames}
 use Rattle.pcm_convert.specs.Conversions.{block_count, conversion_plan}
-use Rattle.pcm_feeder.specs.Filters.{no_filters}
 use Rattle.pcm_convert.specs.Stands.{ConversionStands}
 use Rattle.pcm_convert.specs.declared.conversion.ConversionOf.{ConversionOf}
 use Rattle.pcm_convert.specs.declared.conversion.TheConstants.{BLOCK}

@@ -1,7 +1,7 @@
 //! A conversion: the bytes that it has read wait in a ring, and a chain makes frames of them.
 
 ghost use Rattle.std.specs.Prelude.{◌≡◌, ◌+◌, ◌*◌};
-ghost use Rattle.pcm_fixed.specs.Fixed.{fixed_len};
+ghost use Rattle.pcm_sequence.specs.Fixed.{fixed_len};
 ghost use Rattle.pcm_format.specs.Frames.{frame_bytes};
 ghost use Rattle.pcm_format.specs.Layouts.{channels_of};
 ghost use Rattle.pcm_rate.specs.Rates.{need};
@@ -14,10 +14,10 @@ ghost use Rattle.pcm_convert.specs.declared.conversion.TheConstants.{BLOCK};
 
 use pcm_chain::ChainOf;
 use pcm_feeder::{Feeder, RackOf, Tables, UNITY};
-use pcm_fixed::Fixed;
 use pcm_format::{Settings, spell_frames};
 use pcm_plan::plan_record;
 use pcm_ring::ByteRing;
+use pcm_sequence::Fixed;
 use std::alloc::{AllocError, Global};
 
 /// How many frames a block has, at most.

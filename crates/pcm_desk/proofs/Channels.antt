@@ -21,8 +21,7 @@ use Rattle.pcm_desk.specs.declared.device.Held.{Held}
 use Rattle.pcm_desk.specs.declared.here.Here.{Here}
 use Rattle.pcm_desk.specs.Device.{DeviceSeen, here_at, mix_settings}
 use Rattle.pcm_desk.specs.PlayBooks.{is_play_free}
-use Rattle.pcm_desk.specs.RecordBooks.{is_record_free}
-use Rattle.pcm_desk.specs.MapBooks.{is_map_free}
+use Rattle.pcm_desk.specs.RunStates.{is_unheld}
 use Rattle.pcm_desk.specs.Channels.{Channel, Grouping, Mapped, Playing, Recording, both_bits, channel_begun, is_free, is_held, may_be_held, member_refusal, own_close, own_ioctl, own_join, own_poke, own_read, own_request, own_turn, own_write, passing, play_rate_at, record_rate_at, starting, way_of}
 use Rattle.pcm_desk.specs.Desk.{Desk, channel_at, least_free, map_unopened, play_at, play_unopened, record_unopened, with_channel_at}
 use Rattle.pcm_desk.specs.Own.{slots_of}
@@ -208,10 +207,10 @@ least-unheld device desk Play slot found =
     let free = position-Some (λ (book : PlayBook). is_play_free book.state) desk.play slot (play_unopened device) found in
     record { there = free.0; free = free.1; unheld = free_unheld (play_at device desk slot).state free.1 }
 least-unheld device desk Record slot found =
-    let free = position-Some (λ (book : RecordBook). is_record_free book.state) desk.recording slot (record_unopened device) found in
+    let free = position-Some (λ (book : RecordBook). is_unheld book.state) desk.recording slot (record_unopened device) found in
     record { there = free.0; free = free.1; unheld = ap not free.1 }
 least-unheld device desk Map slot found =
-    let free = position-Some (λ (book : MapBook). is_map_free book.state) desk.mapped slot (map_unopened device) found in
+    let free = position-Some (λ (book : MapBook). is_unheld book.state) desk.mapped slot (map_unopened device) found in
     record { there = free.0; free = free.1; unheld = ap not free.1 }
 
 -- ---- a descriptor may hold it still

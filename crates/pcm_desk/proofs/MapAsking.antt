@@ -10,12 +10,13 @@ use Rattle.pcm_oss.specs.Volumes.{is_volume}
 use Rattle.pcm_feeder.specs.Limits.{IsRate}
 use Rattle.pcm_desk.specs.declared.opening.Opening.{Opening}
 use Rattle.pcm_desk.specs.declared.map_book.MapBook.{MapBook}
-use Rattle.pcm_desk.specs.declared.map_book.MapState.{MapState}
-use Rattle.pcm_desk.specs.declared.map_book.MapState.TheVariants.{Free, Setup, Running}
+use Rattle.pcm_desk.specs.declared.run_state.RunState.{RunState}
+use Rattle.pcm_desk.specs.declared.run_state.RunState.TheVariants.{Free, Setup, Running}
 use Rattle.pcm_desk.specs.declared.play_requests.TheConstants.{PLAY_BIT}
 use Rattle.pcm_desk.specs.Openings as openings
 use Rattle.pcm_desk.specs.PlayRequests.{has_play_bit}
-use Rattle.pcm_desk.specs.MapBooks.{is_map_setup, map_halted, taken_of}
+use Rattle.pcm_desk.specs.RunStates.{is_in_setup}
+use Rattle.pcm_desk.specs.MapBooks.{map_halted, taken_of}
 use Rattle.pcm_desk.specs.MapRequests.{map_ask, map_roused_in, map_set_volume, map_stopped_in, map_triggered, map_with_trigger}
 use Rattle.pcm_desk.specs.BookTurns.{doing, refused}
 use Rattle.pcm_desk.proofs.Openings as settings
@@ -35,7 +36,7 @@ pub record Notes (old new : MapBook) : Type 0 where
 
 -- it sets up again a book that is in Setup, within the limits
 pub record SetsUp (old new : MapBook) : Type 0 where
-  pub setup : is_map_setup old.state ≡ true
+  pub setup : is_in_setup old.state ≡ true
   pub rate : IsRate old.opening.settings.rate → IsRate new.opening.settings.rate
   pub fragments : AreFragments old.opening.fragments → AreFragments new.opening.fragments
   pub eaten : new.eaten ≡ old.eaten
@@ -73,24 +74,24 @@ untouched : (book : MapBook) → Does book book
 untouched book = armed book book.opening.trigger
 
 -- what is asked of every opening
-common : (book : MapBook) (opening : Opening) → settings.Does (is_map_setup book.state) book.opening opening → Does book (record book { opening = opening })
+common : (book : MapBook) (opening : Opening) → settings.Does (is_in_setup book.state) book.opening opening → Does book (record book { opening = opening })
 common book opening d =
     elim d [
       | Staying is ↦ rw is (untouched book)
       | Setting setup sets ↦ SettingUp (record { setup = setup; rate = sets.rate; fragments = sets.fragments; eaten = refl; given = refl; volume = refl; told = sets.told; state = refl })
     ]
 
-common_ask : (request : Request) (book : MapBook) → Does book (record book { opening = (openings.ask (is_map_setup book.state) PLAY_BIT request book.opening).book })
+common_ask : (request : Request) (book : MapBook) → Does book (record book { opening = (openings.ask (is_in_setup book.state) PLAY_BIT request book.opening).book })
 common_ask request book =
-    let asked = (openings.ask (is_map_setup book.state) PLAY_BIT request book.opening).book in
-    common book asked (opening-ask-does (is_map_setup book.state) PLAY_BIT request book.opening)
+    let asked = (openings.ask (is_in_setup book.state) PLAY_BIT request book.opening).book in
+    common book asked (opening-ask-does (is_in_setup book.state) PLAY_BIT request book.opening)
 
 volume_in : (b : Bool) (volume : ℕ) (book : MapBook) → is_volume volume ≡ b → Does book (map_set_volume volume book).book
 volume_in true volume book e = rw e (noted book book.opening.trigger volume (λ v. e))
 volume_in false volume book e = rw e (untouched book)
 
 -- what starts a book
-rouse_at : (state : MapState) (trigger : Bool) (book : MapBook) → Does (record book { state = state }) (map_roused_in state (map_with_trigger trigger (record book { state = state })))
+rouse_at : (state : RunState) (trigger : Bool) (book : MapBook) → Does (record book { state = state }) (map_roused_in state (map_with_trigger trigger (record book { state = state })))
 rouse_at Free trigger book = armed (record book { state = Free }) trigger
 rouse_at Setup trigger book = Noting (record { settings = refl; fragments = refl; eaten = refl; given = refl; volume = λ v. v; told = inl refl; state = inr (refl, refl) })
 rouse_at Running trigger book = armed (record book { state = Running }) trigger
@@ -103,7 +104,7 @@ post_in false book = untouched book
 halt_in : (book : MapBook) (trigger : Bool) → Does book (map_halted (map_with_trigger trigger book))
 halt_in book trigger = Halting (record { settings = refl; fragments = refl; eaten = refl; given = refl; volume = refl; told = refl; state = refl })
 
-stop_at : (state : MapState) (book : MapBook) → Does (record book { state = state }) (map_stopped_in state (map_with_trigger false (record book { state = state })))
+stop_at : (state : RunState) (book : MapBook) → Does (record book { state = state }) (map_stopped_in state (map_with_trigger false (record book { state = state })))
 stop_at Free book = armed (record book { state = Free }) false
 stop_at Setup book = armed (record book { state = Setup }) false
 stop_at Running book = halt_in (record book { state = Running }) false
@@ -146,7 +147,7 @@ map-asked-does Halt book = halt_in book book.opening.trigger
 -- ---- the settings
 
 -- outside Setup the settings stay through a request
-pub map-asked-kept : (request : Request) (book : MapBook) → is_map_setup book.state ≡ false → (map_ask request book).book.opening.settings ≡ book.opening.settings
+pub map-asked-kept : (request : Request) (book : MapBook) → is_in_setup book.state ≡ false → (map_ask request book).book.opening.settings ≡ book.opening.settings
 map-asked-kept request book e =
     elim (map-asked-does request book) [
       | Noting n ↦ n.settings
@@ -155,7 +156,7 @@ map-asked-kept request book e =
     ]
 
 -- and so do the fragments
-pub map-asked-fragments : (request : Request) (book : MapBook) → is_map_setup book.state ≡ false → (map_ask request book).book.opening.fragments ≡ book.opening.fragments
+pub map-asked-fragments : (request : Request) (book : MapBook) → is_in_setup book.state ≡ false → (map_ask request book).book.opening.fragments ≡ book.opening.fragments
 map-asked-fragments request book e =
     elim (map-asked-does request book) [
       | Noting n ↦ n.fragments

@@ -11,9 +11,10 @@ use Rattle.pcm_rate.specs.declared.rate.Rate.{Rate}
 use Rattle.pcm_rate.specs.Rates.{need}
 use Rattle.pcm_rate.proofs.Counts.{need_grows}
 use Rattle.pcm_desk.specs.declared.map_book.MapBook.{MapBook}
-use Rattle.pcm_desk.specs.declared.map_book.MapState.{MapState}
-use Rattle.pcm_desk.specs.declared.map_book.MapState.TheVariants.{Free, Setup, Running}
-use Rattle.pcm_desk.specs.MapBooks.{is_map_setup, map_begun, map_closed, map_refilled, poke_turn, taken_of}
+use Rattle.pcm_desk.specs.declared.run_state.RunState.{RunState}
+use Rattle.pcm_desk.specs.declared.run_state.RunState.TheVariants.{Free, Setup, Running}
+use Rattle.pcm_desk.specs.RunStates.{is_in_setup}
+use Rattle.pcm_desk.specs.MapBooks.{map_begun, map_closed, map_refilled, poke_turn, taken_of}
 use Rattle.pcm_desk.specs.MapRequests.{map_ask}
 use Rattle.pcm_desk.specs.MapSafe.{IsMapInOrder, MapIsSafe}
 use Rattle.pcm_desk.proofs.MapAsking.{Halting, Halts, Noting, Notes, SettingUp, SetsUp, map-asked-does}
@@ -36,17 +37,17 @@ reached_still : (told bytes a b : ℕ) → told ≤ a * bytes → a ≤ b → to
 reached_still told bytes a b t h = let more = mul-le-mul_right bytes h in omega arith
 
 -- a book that isn't running gave nothing
-pub map-setup-unstarted : (state : MapState) (book : MapBook) → is_map_setup state ≡ true → IsMapInOrder state book → book.given ≡ 0
+pub map-setup-unstarted : (state : RunState) (book : MapBook) → is_in_setup state ≡ true → IsMapInOrder state book → book.given ≡ 0
 map-setup-unstarted Free book e o = o
 map-setup-unstarted Setup book e o = o
 map-setup-unstarted Running book e o = cc
 
 -- nor was anything taken of it
-pub map-setup-untaken : (rate : Rate) (book : MapBook) → is_map_setup book.state ≡ true → MapIsSafe rate book → book.eaten ≡ 0
+pub map-setup-untaken : (rate : Rate) (book : MapBook) → is_in_setup book.state ≡ true → MapIsSafe rate book → book.eaten ≡ 0
 map-setup-untaken rate book e s = s.taken ∙ ap (need rate) (map-setup-unstarted book.state book e s.order)
 
 -- the order of a book goes by its counts alone
-order_same : (state : MapState) (old new : MapBook) → new.given ≡ old.given → IsMapInOrder state old → IsMapInOrder state new
+order_same : (state : RunState) (old new : MapBook) → new.given ≡ old.given → IsMapInOrder state old → IsMapInOrder state new
 order_same Free old new given o = given ∙ o
 order_same Setup old new given o = given ∙ o
 order_same Running old new given o = tt
@@ -55,7 +56,7 @@ order_same Running old new given o = tt
 pub map-safe-unstarted : (rate : Rate) (book : MapBook) → book.eaten ≡ 0 → book.given ≡ 0 → book.opening.told ≡ 0 → AreFragments book.opening.fragments → is_volume book.volume ≡ true → MapIsSafe rate book
 map-safe-unstarted rate book eaten given told f v = record { order = at book.state; taken = eaten ∙ ap (need rate) (sym given); fragments = f; volume = v; told = omega (arith, told) }
   where
-    at : (state : MapState) → IsMapInOrder state book
+    at : (state : RunState) → IsMapInOrder state book
     at Free = given
     at Setup = given
     at Running = tt
@@ -74,7 +75,7 @@ map-safe-closed rate book s = map-safe-unstarted rate (map_closed book) refl ref
 pub map-safe-poked : (rate : Rate) (offset count : ℕ) (book : MapBook) → MapIsSafe rate book → MapIsSafe rate (poke_turn offset count book).book
 map-safe-poked rate offset count book s = subst (MapIsSafe rate) (sym (poke-kept offset count book)) s
 
-refilled_at : (state : MapState) (rate : Rate) (n : ℕ) (book : MapBook) → MapIsSafe rate (record book { state = state }) → MapIsSafe rate (map_refilled rate n (record book { state = state }))
+refilled_at : (state : RunState) (rate : Rate) (n : ℕ) (book : MapBook) → MapIsSafe rate (record book { state = state }) → MapIsSafe rate (map_refilled rate n (record book { state = state }))
 refilled_at Free rate n book s = s
 refilled_at Setup rate n book s = s
 refilled_at Running rate n book s =
@@ -99,19 +100,19 @@ reached : (old new : MapBook) → taken_of new ≡ taken_of old → old.opening.
 reached old new same s t = elim t [ inl before ↦ omega (arith, same, before) | inr now ↦ omega (arith, same, now) ]
 
 -- one that notes something
-noted_safe : (rate now : Rate) (old new : MapBook) → Notes old new → (is_map_setup old.state ≡ false → now ≡ rate) → MapIsSafe rate old → MapIsSafe now new
+noted_safe : (rate now : Rate) (old new : MapBook) → Notes old new → (is_in_setup old.state ≡ false → now ≡ rate) → MapIsSafe rate old → MapIsSafe now new
 noted_safe rate now old new n same s = record {
   order = elim n.state [
-    | inl stays ↦ subst (λ (state : MapState). IsMapInOrder state new) (sym stays) (order_same old.state old new n.given s.order)
-    | inr starts ↦ subst (λ (state : MapState). IsMapInOrder state new) (sym starts.1) tt
+    | inl stays ↦ subst (λ (state : RunState). IsMapInOrder state new) (sym stays) (order_same old.state old new n.given s.order)
+    | inr starts ↦ subst (λ (state : RunState). IsMapInOrder state new) (sym starts.1) tt
   ];
-  taken = n.eaten ∙ at (is_map_setup old.state) refl ∙ ap (need now) (sym n.given);
+  taken = n.eaten ∙ at (is_in_setup old.state) refl ∙ ap (need now) (sym n.given);
   fragments = subst AreFragments (sym n.fragments) s.fragments;
   volume = n.volume s.volume;
   told = reached old new (λ i. n.eaten i * frame_bytes (n.settings i)) s.told n.told;
 }
   where
-    at : (b : Bool) → is_map_setup old.state ≡ b → old.eaten ≡ need now old.given
+    at : (b : Bool) → is_in_setup old.state ≡ b → old.eaten ≡ need now old.given
     at true e = map-setup-untaken rate old e s ∙ ap (need now) (sym (map-setup-unstarted old.state old e s.order))
     at false e = s.taken ∙ ap (λ (between : Rate). need between old.given) (sym (same e))
 
@@ -128,7 +129,7 @@ halted_safe : (rate now : Rate) (old new : MapBook) → Halts old new → MapIsS
 halted_safe rate now old new h s = map-safe-unstarted now new h.eaten h.given h.told (subst AreFragments (sym h.fragments) s.fragments) (ap is_volume h.volume ∙ s.volume)
 
 -- a request, at the rate that the book has after it
-pub map-safe-asked : (rate now : Rate) (request : Request) (book : MapBook) → (is_map_setup book.state ≡ false → now ≡ rate) → MapIsSafe rate book → MapIsSafe now (map_ask request book).book
+pub map-safe-asked : (rate now : Rate) (request : Request) (book : MapBook) → (is_in_setup book.state ≡ false → now ≡ rate) → MapIsSafe rate book → MapIsSafe now (map_ask request book).book
 map-safe-asked rate now request book same s =
     let after = (map_ask request book).book in
     elim (map-asked-does request book) [
@@ -139,7 +140,7 @@ map-safe-asked rate now request book same s =
 
 -- ---- what an interrupt leaves
 
-opening_refilled_at : (state : MapState) (rate : Rate) (n : ℕ) (book : MapBook) → (map_refilled rate n (record book { state = state })).opening ≡ book.opening
+opening_refilled_at : (state : RunState) (rate : Rate) (n : ℕ) (book : MapBook) → (map_refilled rate n (record book { state = state })).opening ≡ book.opening
 opening_refilled_at Free rate n book = refl
 opening_refilled_at Setup rate n book = refl
 opening_refilled_at Running rate n book = refl
@@ -148,7 +149,7 @@ opening_refilled_at Running rate n book = refl
 pub map-opening-refilled : (rate : Rate) (n : ℕ) (book : MapBook) → (map_refilled rate n book).opening ≡ book.opening
 map-opening-refilled rate n book = opening_refilled_at book.state rate n book
 
-state_refilled_at : (state : MapState) (rate : Rate) (n : ℕ) (book : MapBook) → (map_refilled rate n (record book { state = state })).state ≡ state
+state_refilled_at : (state : RunState) (rate : Rate) (n : ℕ) (book : MapBook) → (map_refilled rate n (record book { state = state })).state ≡ state
 state_refilled_at Free rate n book = refl
 state_refilled_at Setup rate n book = refl
 state_refilled_at Running rate n book = refl

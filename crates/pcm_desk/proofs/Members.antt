@@ -27,8 +27,8 @@ use Rattle.pcm_desk.specs.declared.play_book.PlayBook.{PlayBook}
 use Rattle.pcm_desk.specs.declared.play_book.PlayState.{PlayState}
 use Rattle.pcm_desk.specs.declared.play_book.PlayState.TheVariants.{Free, Setup, Primed, Running, Draining}
 use Rattle.pcm_desk.specs.declared.record_book.RecordBook.{RecordBook}
-use Rattle.pcm_desk.specs.declared.record_book.RecordState.{RecordState}
-use Rattle.pcm_desk.specs.declared.record_book.RecordState.TheVariants as record_states
+use Rattle.pcm_desk.specs.declared.run_state.RunState.{RunState}
+use Rattle.pcm_desk.specs.declared.run_state.RunState.TheVariants as run_states
 use Rattle.pcm_desk.specs.declared.turn.Turn.{Turn}
 use Rattle.pcm_desk.specs.declared.play_requests.TheConstants.{PLAY_BIT}
 use Rattle.pcm_desk.specs.declared.record_requests.TheConstants.{RECORD_BIT}
@@ -36,7 +36,8 @@ use Rattle.pcm_desk.specs.Device.{DeviceSeen, here_at, mix_settings, mixed_for, 
 use Rattle.pcm_desk.specs.Openings as openings
 use Rattle.pcm_desk.specs.PlayBooks.{accepting, is_play_setup, may_start, play_fill_of, play_free_of, play_settled_in, primed_in, refilled_in, started_at, started_in, takes_none, write_turn}
 use Rattle.pcm_desk.specs.PlayRequests.{play_ask, play_roused_in}
-use Rattle.pcm_desk.specs.RecordBooks.{captured_in, is_record_free, is_record_setup, record_fill_of}
+use Rattle.pcm_desk.specs.RunStates.{is_unheld, is_in_setup}
+use Rattle.pcm_desk.specs.RecordBooks.{captured_in, record_fill_of}
 use Rattle.pcm_desk.specs.RecordRequests.{record_ask, record_roused_in}
 use Rattle.pcm_desk.specs.Channels.{Channel, Grouping, Mapped, Playing, Recording, capturing, channel_begun, is_held, join_result, may_be_held, member_refusal, mixed_by, mixing, own_ioctl, own_join, own_poke, own_request, own_turn, own_write, passing, play_passing, play_rate_at, record_rate_at, rests, way_of}
 use Rattle.pcm_desk.specs.Desk.{Desk, DeskTurn, after, channel_at, desk_at_start, group_of, group_started, grouping_at, groups_after, held_by, is_member, least_free, leaving, left_by, open_turn, opened_at}
@@ -56,7 +57,7 @@ abbrev PlayWaits : PlayBook → Type 0
 PlayWaits book = (is_waiting book.state ≡ true) × (book.opening.trigger ≡ false)
 
 abbrev RecordWaits : RecordBook → Type 0
-RecordWaits book = (is_record_setup book.state ≡ true) × (book.opening.trigger ≡ false)
+RecordWaits book = (is_in_setup book.state ≡ true) × (book.opening.trigger ≡ false)
 
 either : {X : Type 0} (P : X → Type 0) (b : Bool) (x y : X) → P x → P y → P (cond b x y)
 either P true x y px py = px
@@ -145,7 +146,7 @@ record_ask_waits (SetTrigger bits) book l w = absurd l
 record_ask_waits Post book l w = unless RecordWaits book.opening.trigger (record_roused_in book.state book) book w.1 w
 record_ask_waits Sync book l w = absurd l
 record_ask_waits Halt book l w = (refl, w.1)
-record_ask_waits request book l w = record_opened_waits (is_record_setup book.state) RECORD_BIT request book w
+record_ask_waits request book l w = record_opened_waits (is_in_setup book.state) RECORD_BIT request book w
 
 -- a trigger that is set off before a run
 off_waits : (rate : Rate) (mix_rate : ℕ) (here : Here) (state : PlayState) (book : PlayBook) → book.state ≡ state → is_play_setup state ≡ true → PlayWaits (play_ask rate mix_rate here (SetTrigger 0) book).book
@@ -155,10 +156,10 @@ off_waits rate mix_rate here Primed book e s = cc
 off_waits rate mix_rate here Running book e s = cc
 off_waits rate mix_rate here (Draining closed) book e s = cc
 
-record_off_waits : (state : RecordState) (book : RecordBook) → book.state ≡ state → is_record_setup state ≡ true → RecordWaits (record_ask (SetTrigger 0) book).book
-record_off_waits record_states.Setup book e s = rw e (refl, refl)
-record_off_waits record_states.Free book e s = cc
-record_off_waits record_states.Running book e s = cc
+record_off_waits : (state : RunState) (book : RecordBook) → book.state ≡ state → is_in_setup state ≡ true → RecordWaits (record_ask (SetTrigger 0) book).book
+record_off_waits run_states.Setup book e s = rw e (refl, refl)
+record_off_waits run_states.Free book e s = cc
+record_off_waits run_states.Running book e s = cc
 
 -- ---- an interrupt
 
@@ -183,10 +184,10 @@ passing_waits device handed n book w =
     ap (λ (b : PlayBook). play_settled_in (play_rate_at device b) (passed_for device (handed + n)) b.state b) (mixing_waits device (mixed_for device handed) (mixed_by device handed n) book.state book refl w.0)
     ∙ settling_waits device (handed + n) book.state book refl w.0
 
-capturing_waits : (device : DeviceSeen) (n : ℕ) (state : RecordState) (book : RecordBook) → book.state ≡ state → is_record_setup state ≡ true → capturing device n book ≡ book
-capturing_waits device n record_states.Setup book e w = ap (λ (s : RecordState). captured_in (record_rate_at device book) s n book) e
-capturing_waits device n record_states.Free book e w = cc
-capturing_waits device n record_states.Running book e w = cc
+capturing_waits : (device : DeviceSeen) (n : ℕ) (state : RunState) (book : RecordBook) → book.state ≡ state → is_in_setup state ≡ true → capturing device n book ≡ book
+capturing_waits device n run_states.Setup book e w = ap (λ (s : RunState). captured_in (record_rate_at device book) s n book) e
+capturing_waits device n run_states.Free book e w = cc
+capturing_waits device n run_states.Running book e w = cc
 
 passed_waits : (device : DeviceSeen) (handed n : ℕ) (channel : Channel) → Waits channel → Waits (passing device handed n channel)
 passed_waits device handed n (Playing book) w = subst PlayWaits (sym (passing_waits device handed n book w)) w
@@ -314,10 +315,10 @@ waits_held (Playing book) w = at book.state w.0
     at (Draining closed) e = cc
 waits_held (Recording book) w = at book.state w.0
   where
-    at : (state : RecordState) → is_record_setup state ≡ true → not (is_record_free state) ≡ true
-    at record_states.Free e = cc
-    at record_states.Setup e = refl
-    at record_states.Running e = cc
+    at : (state : RunState) → is_in_setup state ≡ true → not (is_unheld state) ≡ true
+    at run_states.Free e = cc
+    at run_states.Setup e = refl
+    at run_states.Running e = cc
 waits_held (Mapped book) w = absurd w
 
 free_alone : (device : DeviceSeen) (desk : Desk) (held : Held) → may_be_held (channel_at device desk held) ≡ false → MembersWait device desk → is_member desk held ≡ true → ⊥

@@ -11,7 +11,7 @@ use Rattle.pcm_oss.specs.declared.event.Way.{Way}
 use Rattle.pcm_oss.specs.declared.reply.Answer.{Answer}
 use Rattle.pcm_oss.specs.declared.reply.Errno.{Errno}
 use Rattle.pcm_desk.specs.declared.device.Held.{Held}
-use Rattle.pcm_desk.specs.Device.{DeviceSeen}
+use Rattle.pcm_desk.specs.Device.{DeviceSeen, here_at}
 use Rattle.pcm_oss.specs.declared.request.Request.TheVariants.{Sync}
 use Rattle.pcm_group.specs.declared.sync_groups.Groups.{Groups}
 use Rattle.pcm_group.specs.Groups.{groups_joined}
@@ -22,7 +22,6 @@ use Rattle.pcm_desk.specs.Own.{GoesByDescriptor, GoesByEach, HoldApart, IsIsolat
 use Rattle.pcm_desk.specs.OwnEvents.{JoinsNone, Opens, closes, concerns, joins, names, own_after, own_events, own_replies, replies_to, unnamed}
 use Rattle.pcm_desk.specs.Events.{after_all, frames_taken}
 use Rattle.pcm_desk.specs.declared.turn.Turn.{Turn}
-use Rattle.pcm_desk.specs.Device.{here_at}
 use Rattle.pcm_desk.proofs.Apart.{apart-after}
 use Rattle.pcm_desk.proofs.Channels.{put-again}
 use Rattle.pcm_desk.proofs.Grouping.{by-starting, is-this}

@@ -12,7 +12,7 @@ use Rattle.pcm_rate.specs.Rates.{need}
 use Rattle.pcm_rate.proofs.Counts.{div_apart, div_grows, need-unchanged}
 use Rattle.pcm_feeder.specs.Limits.{IsRate}
 use Rattle.pcm_plan.proofs.Fits.{record-changes, record-level}
-use Rattle.pcm_desk.specs.Device.{DeviceSeen, IsDevice, IsInLimits, device_settings, filters_of, here_at, mix_frames, mix_settings, mixed_for, parent_rate, passed_for, quality_of, ring_frames}
+use Rattle.pcm_desk.specs.Device.{DeviceSeen, IsDevice, IsInLimits, device_settings, device_filters, here_at, mix_frames, mix_settings, mixed_for, parent_rate, passed_for, device_quality, ring_frames}
 use Rattle.pcm_desk.specs.Here.{IsHere, held_most}
 
 -- ---- quotients
@@ -132,12 +132,12 @@ needs-ahead : (device : DeviceSeen) (count : ℕ) → IsDevice device → NeedsA
 needs-ahead device count d =
     elim (cases_eq (mix_settings device).rate (device_settings device).rate) [
       | inl same ↦ (
-          let is = record-level (filters_of device) (quality_of device) (device_settings device) (mix_settings device) same in
+          let is = record-level (device_filters device) (device_quality device) (device_settings device) (mix_settings device) same in
           let above = d.rate.least in
           let lasts : lasting device count ≡ count = ap (λ (r : ℕ). count * r / (device_settings device).rate) same ∙ mul-div_cancel count (omega (arith, above)) in
           record { ahead = 0; most = omega arith; is = ap (λ (r : Rate). need r (suc count)) is ∙ need-unchanged (suc count) ∙ omega (arith, lasts) })
       | inr differ ↦ (
-          let is = record-changes (filters_of device) (quality_of device) (device_settings device) (mix_settings device) d.filters differ in
+          let is = record-changes (device_filters device) (device_quality device) (device_settings device) (mix_settings device) d.filters differ in
           record {
             ahead = (parent_rate device).lookahead;
             most = is.lookahead;

@@ -6,14 +6,12 @@ use Rattle.pcm_desk.specs.declared.play_book.PlayBook.{PlayBook}
 use Rattle.pcm_desk.specs.declared.play_book.PlayState.{PlayState}
 use Rattle.pcm_desk.specs.declared.play_book.PlayState.TheVariants.{Free, Setup, Primed, Running, Draining}
 use Rattle.pcm_desk.specs.declared.record_book.RecordBook.{RecordBook}
-use Rattle.pcm_desk.specs.declared.record_book.RecordState.{RecordState}
-use Rattle.pcm_desk.specs.declared.record_book.RecordState.TheVariants as record_states
+use Rattle.pcm_desk.specs.declared.run_state.RunState.{RunState}
+use Rattle.pcm_desk.specs.declared.run_state.RunState.TheVariants as run_states
 use Rattle.pcm_desk.specs.Desk.{Desk}
 use Rattle.pcm_desk.specs.Own.{HoldApart}
 use Rattle.pcm_desk.specs.PlaySafe.{IsPlayInOrder, PlayIsSafe}
 use Rattle.pcm_desk.specs.declared.map_book.MapBook.{MapBook}
-use Rattle.pcm_desk.specs.declared.map_book.MapState.{MapState}
-use Rattle.pcm_desk.specs.declared.map_book.MapState.TheVariants as map_states
 use Rattle.pcm_desk.specs.MapSafe.{IsMapInOrder, MapIsSafe}
 use Rattle.pcm_desk.specs.RecordSafe.{IsRecordInOrder, RecordIsSafe}
 
@@ -31,10 +29,10 @@ PlayIsSafe-prop rate book = Prim.hlevel order_props
 
 pub ruleset book_props = (PlayIsSafe-prop, props)
 
-pub record-IsInOrder-prop : (state : RecordState) (book : RecordBook) → IsProp (IsRecordInOrder state book)
-record-IsInOrder-prop record_states.Free book = Prim.hlevel props
-record-IsInOrder-prop record_states.Setup book = Prim.hlevel props
-record-IsInOrder-prop record_states.Running book = Prim.hlevel props
+pub record-IsInOrder-prop : (state : RunState) (book : RecordBook) → IsProp (IsRecordInOrder state book)
+record-IsInOrder-prop run_states.Free book = Prim.hlevel props
+record-IsInOrder-prop run_states.Setup book = Prim.hlevel props
+record-IsInOrder-prop run_states.Running book = Prim.hlevel props
 
 pub ruleset record_order_props = (record-IsInOrder-prop, props)
 
@@ -43,10 +41,10 @@ RecordIsSafe-prop rate book = Prim.hlevel record_order_props
 
 pub ruleset record_props = (RecordIsSafe-prop, props)
 
-pub map-IsInOrder-prop : (state : MapState) (book : MapBook) → IsProp (IsMapInOrder state book)
-map-IsInOrder-prop map_states.Free book = Prim.hlevel props
-map-IsInOrder-prop map_states.Setup book = Prim.hlevel props
-map-IsInOrder-prop map_states.Running book = Prim.hlevel props
+pub map-IsInOrder-prop : (state : RunState) (book : MapBook) → IsProp (IsMapInOrder state book)
+map-IsInOrder-prop run_states.Free book = Prim.hlevel props
+map-IsInOrder-prop run_states.Setup book = Prim.hlevel props
+map-IsInOrder-prop run_states.Running book = Prim.hlevel props
 
 pub ruleset map_order_props = (map-IsInOrder-prop, props)
 

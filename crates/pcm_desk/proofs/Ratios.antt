@@ -20,42 +20,42 @@ use Rattle.pcm_plan.specs.Through.{recs}
 use Rattle.pcm_plan.proofs.Bits.{recs-bits}
 use Rattle.pcm_plan.proofs.Fits.{play-fits, play-ratio, play-tables, record-changes, record-fits, record-level, record-ratio, record-tables}
 use Rattle.pcm_desk.specs.declared.device.Device.{Device}
-use Rattle.pcm_desk.specs.Device.{DeviceSeen, HasRates, IsDevice, device_settings, filters_of, quality_of, play_plan_between, play_rate_between, mix_frames, mix_settings, mixed_for, parent_plan, parent_rate, record_plan_between, record_rate_between, ring_frames, seen}
+use Rattle.pcm_desk.specs.Device.{DeviceSeen, HasRates, IsDevice, device_settings, device_filters, device_quality, play_plan_between, play_rate_between, mix_frames, mix_settings, mixed_for, parent_plan, parent_rate, record_plan_between, record_rate_between, ring_frames, seen}
 use Rattle.pcm_desk.specs.Channels.{mixed_by}
 
 -- ---- from a client that plays to the mix
 
 -- the stages between a client and the mix fit each other
 pub plan-between-fits : (device : DeviceSeen) (settings : Settings) → IsDevice device → IsRate settings.rate → IsPlan (play_plan_between device settings)
-plan-between-fits device settings d s = play-fits (filters_of device) (quality_of device) settings (mix_settings device) d.filters s d.mix_rate
+plan-between-fits device settings d s = play-fits (device_filters device) (device_quality device) settings (mix_settings device) d.filters s d.mix_rate
 
 -- the device's filters are those that the stages ask for
-pub tables-between : (device : DeviceSeen) (settings : Settings) → IsDevice device → IsRate settings.rate → HaveTables (play_plan_between device settings).stages (filters_of device)
-tables-between device settings d s = play-tables (filters_of device) (quality_of device) settings (mix_settings device) d.filters s d.mix_rate
+pub tables-between : (device : DeviceSeen) (settings : Settings) → IsDevice device → IsRate settings.rate → HaveTables (play_plan_between device settings).stages (device_filters device)
+tables-between device settings d s = play-tables (device_filters device) (device_quality device) settings (mix_settings device) d.filters s d.mix_rate
 
 -- both rates between a client and the mix are above 0
 pub ratio-between : (device : DeviceSeen) (settings : Settings) → IsDevice device → IsRate settings.rate → IsRatio (play_rate_between device settings)
-ratio-between device settings d s = play-ratio (filters_of device) (quality_of device) settings (mix_settings device) s d.mix_rate
+ratio-between device settings d s = play-ratio (device_filters device) (device_quality device) settings (mix_settings device) s d.mix_rate
 
 -- ---- from the device to a client that records
 
 -- the stages between the device and a client that records fit each other
 pub record-plan-between-fits : (device : DeviceSeen) (settings : Settings) → IsDevice device → IsRate settings.rate → IsPlan (record_plan_between device settings)
-record-plan-between-fits device settings d s = record-fits (filters_of device) (quality_of device) settings (device_settings device) d.filters s d.rate
+record-plan-between-fits device settings d s = record-fits (device_filters device) (device_quality device) settings (device_settings device) d.filters s d.rate
 
 -- the device's filters are those that these stages ask for
-pub record-tables-between : (device : DeviceSeen) (settings : Settings) → IsDevice device → IsRate settings.rate → HaveTables (record_plan_between device settings).stages (filters_of device)
-record-tables-between device settings d s = record-tables (filters_of device) (quality_of device) settings (device_settings device) d.filters s d.rate
+pub record-tables-between : (device : DeviceSeen) (settings : Settings) → IsDevice device → IsRate settings.rate → HaveTables (record_plan_between device settings).stages (device_filters device)
+record-tables-between device settings d s = record-tables (device_filters device) (device_quality device) settings (device_settings device) d.filters s d.rate
 
 -- both rates between the device and such a client are above 0
 pub record-ratio-between : (device : DeviceSeen) (settings : Settings) → IsDevice device → IsRate settings.rate → IsRatio (record_rate_between device settings)
-record-ratio-between device settings d s = record-ratio (filters_of device) (quality_of device) settings (device_settings device) d.filters s d.rate
+record-ratio-between device settings d s = record-ratio (device_filters device) (device_quality device) settings (device_settings device) d.filters s d.rate
 
 -- what such a client gets of the device's frames is within the bits of its format
 pub record-bits-between : (device : DeviceSeen) (settings : Settings) → IsDevice device → IsRate settings.rate → (frames : List Frame) (from count : ℕ) → HaveBits 32 frames
-    → HaveBits (bits_of settings.format) (recs (record_plan_between device settings) (filters_of device) frames from count)
+    → HaveBits (bits_of settings.format) (recs (record_plan_between device settings) (device_filters device) frames from count)
 record-bits-between device settings d s frames from count have =
-    recs-bits (filters_of device) (quality_of device) settings (device_settings device) frames from count s have
+    recs-bits (device_filters device) (device_quality device) settings (device_settings device) frames from count s have
 
 -- ---- from the mix to the device
 
@@ -65,20 +65,20 @@ device-is filters device has are = record { rate = has.rate; mix_rate = has.mix_
 
 -- the stages between the mix and the device fit each other
 pub parent-plan-fits : (device : DeviceSeen) → IsDevice device → IsPlan (parent_plan device)
-parent-plan-fits device d = record-fits (filters_of device) (quality_of device) (device_settings device) (mix_settings device) d.filters d.rate d.mix_rate
+parent-plan-fits device d = record-fits (device_filters device) (device_quality device) (device_settings device) (mix_settings device) d.filters d.rate d.mix_rate
 
 -- the device's filters are those that they ask for
-pub parent-tables : (device : DeviceSeen) → IsDevice device → HaveTables (parent_plan device).stages (filters_of device)
-parent-tables device d = record-tables (filters_of device) (quality_of device) (device_settings device) (mix_settings device) d.filters d.rate d.mix_rate
+pub parent-tables : (device : DeviceSeen) → IsDevice device → HaveTables (parent_plan device).stages (device_filters device)
+parent-tables device d = record-tables (device_filters device) (device_quality device) (device_settings device) (mix_settings device) d.filters d.rate d.mix_rate
 
 -- both rates between them are above 0
 pub parent-ratio : (device : DeviceSeen) → IsDevice device → IsRatio (parent_rate device)
-parent-ratio device d = record-ratio (filters_of device) (quality_of device) (device_settings device) (mix_settings device) d.filters d.rate d.mix_rate
+parent-ratio device d = record-ratio (device_filters device) (device_quality device) (device_settings device) (mix_settings device) d.filters d.rate d.mix_rate
 
 -- what the device gets of mixed frames is within the bits of its format
 pub parent-bits : (device : DeviceSeen) → IsDevice device → (frames : List Frame) (from count : ℕ) → HaveBits 32 frames
-    → HaveBits (bits_of (device_settings device).format) (recs (parent_plan device) (filters_of device) frames from count)
-parent-bits device d frames from count have = recs-bits (filters_of device) (quality_of device) (device_settings device) (mix_settings device) frames from count d.rate have
+    → HaveBits (bits_of (device_settings device).format) (recs (parent_plan device) (device_filters device) frames from count)
+parent-bits device d frames from count have = recs-bits (device_filters device) (device_quality device) (device_settings device) (mix_settings device) frames from count d.rate have
 
 -- more frames of the device need no fewer mixed ones
 pub mixed-grows : (device : DeviceSeen) (handed later : ℕ) → IsDevice device → handed ≤ later → mixed_for device handed ≤ mixed_for device later
@@ -99,7 +99,7 @@ mix-within device handed n d few =
   where
     level : (mix_settings device).rate ≡ (device_settings device).rate → mixed_by device handed n ≤ ring_frames device
     level same =
-        let is = record-level (filters_of device) (quality_of device) (device_settings device) (mix_settings device) same in
+        let is = record-level (device_filters device) (device_quality device) (device_settings device) (mix_settings device) same in
         let before = ap (λ (r : Rate). need r handed) is ∙ need-unchanged handed in
         let behind = ap (λ (r : Rate). need r (handed + n)) is ∙ need-unchanged (handed + n) in
         omega (arith, before, behind, few)
@@ -108,7 +108,7 @@ mix-within device handed n d few =
     apart differ =
         let mix = (mix_settings device).rate in
         let rate = (device_settings device).rate in
-        let is = record-changes (filters_of device) (quality_of device) (device_settings device) (mix_settings device) d.filters differ in
+        let is = record-changes (device_filters device) (device_quality device) (device_settings device) (mix_settings device) d.filters differ in
         let dst = (parent-ratio device d).dst in
         let above : 0 < rate = subst (λ (k : ℕ). 0 < k) is.dst_is dst in
         let most = need-apart (parent_rate device) handed n dst in

@@ -9,11 +9,12 @@ use Rattle.pcm_oss.specs.Fragments.{AreFragments}
 use Rattle.pcm_feeder.specs.Limits.{IsRate}
 use Rattle.pcm_desk.specs.declared.opening.Opening.{Opening}
 use Rattle.pcm_desk.specs.declared.record_book.RecordBook.{RecordBook}
-use Rattle.pcm_desk.specs.declared.record_book.RecordState.{RecordState}
-use Rattle.pcm_desk.specs.declared.record_book.RecordState.TheVariants.{Free, Setup, Running}
+use Rattle.pcm_desk.specs.declared.run_state.RunState.{RunState}
+use Rattle.pcm_desk.specs.declared.run_state.RunState.TheVariants.{Free, Setup, Running}
 use Rattle.pcm_desk.specs.declared.record_requests.TheConstants.{RECORD_BIT}
 use Rattle.pcm_desk.specs.Openings as openings
-use Rattle.pcm_desk.specs.RecordBooks.{is_record_setup, record_dropped}
+use Rattle.pcm_desk.specs.RunStates.{is_in_setup}
+use Rattle.pcm_desk.specs.RecordBooks.{record_dropped}
 use Rattle.pcm_desk.specs.RecordRequests.{has_record_bit, record_ask, record_roused_in, record_stopped_in, record_triggered, record_with_trigger}
 use Rattle.pcm_desk.specs.BookTurns.{doing, refused}
 use Rattle.pcm_desk.proofs.Openings as settings
@@ -34,7 +35,7 @@ pub record Notes (old new : RecordBook) : Type 0 where
 
 -- it sets up again a book that is in Setup, within the limits
 pub record SetsUp (old new : RecordBook) : Type 0 where
-  pub setup : is_record_setup old.state ≡ true
+  pub setup : is_in_setup old.state ≡ true
   pub rate : IsRate old.opening.settings.rate → IsRate new.opening.settings.rate
   pub fragments : AreFragments old.opening.fragments → AreFragments new.opening.fragments
   pub captured : new.captured ≡ old.captured
@@ -70,20 +71,20 @@ untouched : (book : RecordBook) → Does book book
 untouched book = noted book book.opening.trigger book.overruns
 
 -- what is asked of every opening
-common : (book : RecordBook) (opening : Opening) → settings.Does (is_record_setup book.state) book.opening opening → Does book (record book { opening = opening })
+common : (book : RecordBook) (opening : Opening) → settings.Does (is_in_setup book.state) book.opening opening → Does book (record book { opening = opening })
 common book opening d =
     elim d [
       | Staying is ↦ rw is (untouched book)
       | Setting setup sets ↦ SettingUp (record { setup = setup; rate = sets.rate; fragments = sets.fragments; captured = refl; given = refl; kept = refl; read = refl; told = sets.told; state = refl })
     ]
 
-common_ask : (request : Request) (book : RecordBook) → Does book (record book { opening = (openings.ask (is_record_setup book.state) RECORD_BIT request book.opening).book })
+common_ask : (request : Request) (book : RecordBook) → Does book (record book { opening = (openings.ask (is_in_setup book.state) RECORD_BIT request book.opening).book })
 common_ask request book =
-    let asked = (openings.ask (is_record_setup book.state) RECORD_BIT request book.opening).book in
-    common book asked (opening-ask-does (is_record_setup book.state) RECORD_BIT request book.opening)
+    let asked = (openings.ask (is_in_setup book.state) RECORD_BIT request book.opening).book in
+    common book asked (opening-ask-does (is_in_setup book.state) RECORD_BIT request book.opening)
 
 -- what starts a book
-rouse_at : (state : RecordState) (trigger : Bool) (book : RecordBook) → Does (record book { state = state }) (record_roused_in state (record_with_trigger trigger (record book { state = state })))
+rouse_at : (state : RunState) (trigger : Bool) (book : RecordBook) → Does (record book { state = state }) (record_roused_in state (record_with_trigger trigger (record book { state = state })))
 rouse_at Free trigger book = noted (record book { state = Free }) trigger book.overruns
 rouse_at Setup trigger book = Noting (record { settings = refl; fragments = refl; captured = refl; given = refl; kept = refl; read = refl; told = inl refl; state = inr (refl, refl) })
 rouse_at Running trigger book = noted (record book { state = Running }) trigger book.overruns
@@ -96,7 +97,7 @@ post_in false book = untouched book
 drop_in : (book : RecordBook) (trigger : Bool) → Does book (record_dropped (record_with_trigger trigger book))
 drop_in book trigger = Dropping (record { settings = refl; fragments = refl; captured = refl; given = refl; kept = refl; read = refl; told = refl; state = refl })
 
-stop_at : (state : RecordState) (book : RecordBook) → Does (record book { state = state }) (record_stopped_in state (record_with_trigger false (record book { state = state })))
+stop_at : (state : RunState) (book : RecordBook) → Does (record book { state = state }) (record_stopped_in state (record_with_trigger false (record book { state = state })))
 stop_at Free book = noted (record book { state = Free }) false book.overruns
 stop_at Setup book = noted (record book { state = Setup }) false book.overruns
 stop_at Running book = drop_in (record book { state = Running }) false
@@ -139,7 +140,7 @@ record-ask-does Halt book = drop_in book book.opening.trigger
 -- ---- the settings
 
 -- outside Setup the settings stay through a request
-pub record-ask-settings : (request : Request) (book : RecordBook) → is_record_setup book.state ≡ false → (record_ask request book).book.opening.settings ≡ book.opening.settings
+pub record-ask-settings : (request : Request) (book : RecordBook) → is_in_setup book.state ≡ false → (record_ask request book).book.opening.settings ≡ book.opening.settings
 record-ask-settings request book e =
     elim (record-ask-does request book) [
       | Noting n ↦ n.settings

@@ -4,9 +4,9 @@ use Rattle.pcm_oss.specs.declared.request.Request.{Request}
 use Rattle.pcm_rate.specs.declared.rate.Rate.{Rate}
 use Rattle.pcm_rate.specs.Rates.{can}
 use Rattle.pcm_desk.specs.declared.record_book.RecordBook.{RecordBook}
-use Rattle.pcm_desk.specs.declared.record_book.RecordState.{RecordState}
-use Rattle.pcm_desk.specs.declared.record_book.RecordState.TheVariants.{Free, Setup, Running}
-use Rattle.pcm_desk.specs.RecordBooks.{is_record_free, is_record_setup, is_running}
+use Rattle.pcm_desk.specs.declared.run_state.RunState.{RunState}
+use Rattle.pcm_desk.specs.declared.run_state.RunState.TheVariants.{Free, Setup, Running}
+use Rattle.pcm_desk.specs.RunStates.{is_unheld, is_in_setup, is_running}
 use Rattle.pcm_desk.specs.RecordRequests.{record_ask}
 use Rattle.pcm_desk.specs.RecordSafe.{RecordIsSafe}
 use Rattle.pcm_desk.proofs.RecordAsking.{Noting, SettingUp, Dropping, Drops, Notes, SetsUp, record-ask-does}
@@ -21,7 +21,7 @@ pub record Stays (old new : RecordBook) : Type 0 where
   pub kept : new.kept ≡ old.kept
   pub read : new.read ≡ old.read
   pub runs : is_running old.state ≡ true → is_running new.state ≡ true
-  pub held : is_record_free new.state ≡ false → is_record_free old.state ≡ false
+  pub held : is_unheld new.state ≡ false → is_unheld old.state ≡ false
 
 -- nothing is left of a recording, which may have had other settings
 pub record Ends (old new : RecordBook) : Type 0 where
@@ -34,7 +34,7 @@ pub record Ends (old new : RecordBook) : Type 0 where
 pub record Leaves (old new : RecordBook) : Type 0 where
   pub counts : Stays old new ⊎ Ends old new
 
-setup_stopped : (state : RecordState) → is_record_setup state ≡ true → is_running state ≡ false
+setup_stopped : (state : RunState) → is_in_setup state ≡ true → is_running state ≡ false
 setup_stopped Free e = refl
 setup_stopped Setup e = refl
 setup_stopped Running e = cc
@@ -48,7 +48,7 @@ noted old new n = record {
   kept = n.kept;
   read = n.read;
   runs = λ h. elim n.state [ inl same ↦ ap is_running same ∙ h | inr starts ↦ ap is_running starts.1 ];
-  held = λ h. elim n.state [ inl same ↦ ap is_record_free (sym same) ∙ h | inr starts ↦ ap is_record_free starts.0 ];
+  held = λ h. elim n.state [ inl same ↦ ap is_unheld (sym same) ∙ h | inr starts ↦ ap is_unheld starts.0 ];
 }
 
 set_up : (rate : Rate) (old new : RecordBook) → RecordIsSafe rate old → SetsUp old new → Ends old new

@@ -14,10 +14,11 @@ use Rattle.pcm_rate.specs.declared.rate.Rate.{Rate}
 use Rattle.pcm_rate.specs.Rates.{can, div_up, len}
 use Rattle.pcm_rate.proofs.Counts.{div_grows}
 use Rattle.pcm_desk.specs.declared.record_book.RecordBook.{RecordBook}
-use Rattle.pcm_desk.specs.declared.record_book.RecordState.{RecordState}
-use Rattle.pcm_desk.specs.declared.record_book.RecordState.TheVariants.{Free, Setup, Running}
+use Rattle.pcm_desk.specs.declared.run_state.RunState.{RunState}
+use Rattle.pcm_desk.specs.declared.run_state.RunState.TheVariants.{Free, Setup, Running}
 use Rattle.pcm_desk.specs.declared.turn.Turn.{Turn}
-use Rattle.pcm_desk.specs.RecordBooks.{captured, closed, is_record_setup, keeping, read_turn, record_begun, record_fill_of, record_free_of}
+use Rattle.pcm_desk.specs.RunStates.{is_in_setup}
+use Rattle.pcm_desk.specs.RecordBooks.{captured, closed, keeping, read_turn, record_begun, record_fill_of, record_free_of}
 use Rattle.pcm_desk.specs.RecordRequests.{record_ask}
 use Rattle.pcm_desk.specs.RecordSafe.{IsRecordInOrder, IsRecordUnstarted, RecordIsSafe}
 use Rattle.pcm_desk.proofs.RecordAsking.{Noting, SettingUp, Dropping, Drops, Notes, SetsUp, record-ask-does}
@@ -45,13 +46,13 @@ can_grows rate n m h =
     more_lasts rate.src ((n - rate.lookahead) * rate.dst) ((m - rate.lookahead) * rate.dst) (mul-le-mul_right rate.dst (omega arith))
 
 -- a book that isn't running counts nothing
-pub setup-unstarted : (state : RecordState) (book : RecordBook) → is_record_setup state ≡ true → IsRecordInOrder state book → IsRecordUnstarted book
+pub setup-unstarted : (state : RunState) (book : RecordBook) → is_in_setup state ≡ true → IsRecordInOrder state book → IsRecordUnstarted book
 setup-unstarted Free book e o = o
 setup-unstarted Setup book e o = o
 setup-unstarted Running book e o = cc
 
 -- the order of a book goes by its counts alone
-order_same : (state : RecordState) (old new : RecordBook) → new.captured ≡ old.captured → new.kept ≡ old.kept → new.read ≡ old.read → IsRecordInOrder state old → IsRecordInOrder state new
+order_same : (state : RunState) (old new : RecordBook) → new.captured ≡ old.captured → new.kept ≡ old.kept → new.read ≡ old.read → IsRecordInOrder state old → IsRecordInOrder state new
 order_same Free old new captured kept read o = record { captured_none = captured ∙ o.captured_none; kept_none = kept ∙ o.kept_none; read_none = read ∙ o.read_none }
 order_same Setup old new captured kept read o = record { captured_none = captured ∙ o.captured_none; kept_none = kept ∙ o.kept_none; read_none = read ∙ o.read_none }
 order_same Running old new captured kept read o = tt
@@ -71,7 +72,7 @@ safe-unstarted rate book u given told f =
       told = omega arith;
     }
   where
-    at : (state : RecordState) → IsRecordInOrder state book
+    at : (state : RunState) → IsRecordInOrder state book
     at Free = u
     at Setup = u
     at Running = tt
@@ -86,7 +87,7 @@ record-safe-begun rate settings = safe-unstarted rate (record_begun settings) (r
 pub record-safe-closed : (rate : Rate) (book : RecordBook) → RecordIsSafe rate book → RecordIsSafe rate (closed book)
 record-safe-closed rate book s = safe-unstarted rate (closed book) (record { captured_none = refl; kept_none = refl; read_none = refl }) refl refl s.fragments
 
-order_read : (state : RecordState) (length : ℕ) (book : RecordBook) → IsRecordInOrder state book → IsRecordInOrder state (record book { read = book.read + min length (record_fill_of book) })
+order_read : (state : RunState) (length : ℕ) (book : RecordBook) → IsRecordInOrder state book → IsRecordInOrder state (record book { read = book.read + min length (record_fill_of book) })
 order_read Free length book o = let kept = o.kept_none in let read = o.read_none in record { captured_none = o.captured_none; kept_none = kept; read_none = omega arith }
 order_read Setup length book o = let kept = o.kept_none in let read = o.read_none in record { captured_none = o.captured_none; kept_none = kept; read_none = omega arith }
 order_read Running length book o = tt
@@ -109,7 +110,7 @@ keeps_free rate n book =
     let most = mul-le-mul_right {m = keeping rate n book} {n = record_free_of book / frame_bytes book.opening.settings} (frame_bytes book.opening.settings) (omega arith) in
     omega (arith, whole, most)
 
-captured_at : (state : RecordState) (rate : Rate) (n : ℕ) (book : RecordBook) → RecordIsSafe rate (record book { state = state }) → RecordIsSafe rate (captured rate n (record book { state = state }))
+captured_at : (state : RunState) (rate : Rate) (n : ℕ) (book : RecordBook) → RecordIsSafe rate (record book { state = state }) → RecordIsSafe rate (captured rate n (record book { state = state }))
 captured_at Free rate n book s = s
 captured_at Setup rate n book s = s
 captured_at Running rate n book s =
@@ -132,23 +133,23 @@ reached : (old new : RecordBook) → new.kept ≡ old.kept → old.opening.told 
 reached old new same s t = elim t [ inl before ↦ omega (arith, same, before) | inr now ↦ omega (arith, same, now) ]
 
 -- one that notes something
-noted_safe : (rate now : Rate) (old new : RecordBook) → Notes old new → (is_record_setup old.state ≡ false → now ≡ rate) → RecordIsSafe rate old → RecordIsSafe now new
+noted_safe : (rate now : Rate) (old new : RecordBook) → Notes old new → (is_in_setup old.state ≡ false → now ≡ rate) → RecordIsSafe rate old → RecordIsSafe now new
 noted_safe rate now old new n same s =
     let read = s.read in
     let fill = s.fill in
     record {
       order = elim n.state [
-        | inl stays ↦ subst (λ (state : RecordState). IsRecordInOrder state new) (sym stays) (order_same old.state old new n.captured n.kept n.read s.order)
-        | inr starts ↦ subst (λ (state : RecordState). IsRecordInOrder state new) (sym starts.1) tt
+        | inl stays ↦ subst (λ (state : RunState). IsRecordInOrder state new) (sym stays) (order_same old.state old new n.captured n.kept n.read s.order)
+        | inr starts ↦ subst (λ (state : RunState). IsRecordInOrder state new) (sym starts.1) tt
       ];
-      given = n.given ∙ at (is_record_setup old.state) refl ∙ ap (can now) (sym n.captured);
+      given = n.given ∙ at (is_in_setup old.state) refl ∙ ap (can now) (sym n.captured);
       read = omega (arith, n.read, n.kept);
       fill = subst (λ (fragments : Fragments). record_fill_of new ≤ ring_size fragments) (sym n.fragments) (omega (arith, n.read, n.kept));
       fragments = subst AreFragments (sym n.fragments) s.fragments;
       told = reached old new n.kept s.told n.told;
     }
   where
-    at : (b : Bool) → is_record_setup old.state ≡ b → old.given ≡ can now old.captured
+    at : (b : Bool) → is_in_setup old.state ≡ b → old.given ≡ can now old.captured
     at true e =
         let none = (setup-unstarted old.state old e s.order).captured_none in
         s.given ∙ ap (can rate) none ∙ can-none rate ∙ sym (can-none now) ∙ ap (can now) (sym none)
@@ -171,7 +172,7 @@ dropped_safe rate now old new d s =
     safe-unstarted now new (record { captured_none = d.captured; kept_none = d.kept; read_none = d.read }) d.given d.told (subst AreFragments (sym d.fragments) s.fragments)
 
 -- a request, at the rate that the book has after it
-pub record-safe-ask : (rate now : Rate) (request : Request) (book : RecordBook) → (is_record_setup book.state ≡ false → now ≡ rate) → RecordIsSafe rate book → RecordIsSafe now (record_ask request book).book
+pub record-safe-ask : (rate now : Rate) (request : Request) (book : RecordBook) → (is_in_setup book.state ≡ false → now ≡ rate) → RecordIsSafe rate book → RecordIsSafe now (record_ask request book).book
 record-safe-ask rate now request book same s =
     let after = (record_ask request book).book in
     elim (record-ask-does request book) [

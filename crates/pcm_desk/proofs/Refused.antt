@@ -26,10 +26,11 @@ use Rattle.pcm_desk.specs.Openings as openings
 use Rattle.pcm_desk.specs.Openings.{at_format, at_layout, at_rate, ring_bytes, set_fragments, reset_to, telling_of}
 use Rattle.pcm_desk.specs.PlayRequests.{has_play_bit, play_ask, play_triggered}
 use Rattle.pcm_desk.specs.RecordBooks as records
-use Rattle.pcm_desk.specs.RecordBooks.{is_record_setup, record_fill_of}
+use Rattle.pcm_desk.specs.RunStates.{is_in_setup}
+use Rattle.pcm_desk.specs.RecordBooks.{record_fill_of}
 use Rattle.pcm_desk.specs.RecordRequests as record_requests
 use Rattle.pcm_desk.specs.RecordRequests.{record_ask, record_triggered}
-use Rattle.pcm_desk.specs.MapBooks.{is_map_setup, poke_turn}
+use Rattle.pcm_desk.specs.MapBooks.{poke_turn}
 use Rattle.pcm_desk.specs.MapRequests.{map_ask, map_triggered}
 use Rattle.pcm_desk.specs.BookTurns.{doing, refused, telling}
 
@@ -129,9 +130,9 @@ write-done here length book answer e =
 
 -- ---- channels that record
 
-record_common : (request : Request) (book : RecordBook) (errno : Errno) → (openings.ask (is_record_setup book.state) RECORD_BIT request book.opening).reply ≡ Err errno
-    → record book { opening = (openings.ask (is_record_setup book.state) RECORD_BIT request book.opening).book } ≡ book
-record_common request book errno e = ap (λ (opening : Opening). record book { opening = opening }) (opening_refused (is_record_setup book.state) RECORD_BIT request book.opening errno e)
+record_common : (request : Request) (book : RecordBook) (errno : Errno) → (openings.ask (is_in_setup book.state) RECORD_BIT request book.opening).reply ≡ Err errno
+    → record book { opening = (openings.ask (is_in_setup book.state) RECORD_BIT request book.opening).book } ≡ book
+record_common request book errno e = ap (λ (opening : Opening). record book { opening = opening }) (opening_refused (is_in_setup book.state) RECORD_BIT request book.opening errno e)
 
 record_set_trigger_in : (wrong : Bool) (bits : ℕ) (book : RecordBook)
     → LeavesRefused book (cond wrong (refused Inval book) (doing (record_triggered (record_requests.has_record_bit bits) book)))
@@ -188,9 +189,9 @@ read-done length book answer e =
 
 -- ---- mapped channels
 
-map_common : (request : Request) (book : MapBook) (errno : Errno) → (openings.ask (is_map_setup book.state) PLAY_BIT request book.opening).reply ≡ Err errno
-    → record book { opening = (openings.ask (is_map_setup book.state) PLAY_BIT request book.opening).book } ≡ book
-map_common request book errno e = ap (λ (opening : Opening). record book { opening = opening }) (opening_refused (is_map_setup book.state) PLAY_BIT request book.opening errno e)
+map_common : (request : Request) (book : MapBook) (errno : Errno) → (openings.ask (is_in_setup book.state) PLAY_BIT request book.opening).reply ≡ Err errno
+    → record book { opening = (openings.ask (is_in_setup book.state) PLAY_BIT request book.opening).book } ≡ book
+map_common request book errno e = ap (λ (opening : Opening). record book { opening = opening }) (opening_refused (is_in_setup book.state) PLAY_BIT request book.opening errno e)
 
 map_volume_in : (b : Bool) (volume : ℕ) (book : MapBook) → LeavesRefused book (cond b (telling (Number volume) (record book { volume = volume })) (refused Inval book))
 map_volume_in true volume book errno e = cc

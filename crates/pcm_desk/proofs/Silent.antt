@@ -19,11 +19,12 @@ use Rattle.pcm_desk.specs.declared.turn.Turn.{Turn}
 use Rattle.pcm_desk.specs.PlayBooks.{accepting, is_draining, is_play_setup, play_free_of, takes_none, write_turn}
 use Rattle.pcm_desk.specs.PlayRequests.{has_play_bit, play_ask, play_triggered, set_volume}
 use Rattle.pcm_desk.specs.RecordBooks as records
-use Rattle.pcm_desk.specs.RecordBooks.{is_record_setup, record_fill_of}
+use Rattle.pcm_desk.specs.RunStates.{is_in_setup}
+use Rattle.pcm_desk.specs.RecordBooks.{record_fill_of}
 use Rattle.pcm_desk.specs.RecordRequests as record_requests
 use Rattle.pcm_desk.specs.RecordRequests.{record_ask, record_triggered}
 use Rattle.pcm_desk.specs.Openings.{ring_bytes}
-use Rattle.pcm_desk.specs.MapBooks.{is_map_setup, poke_turn}
+use Rattle.pcm_desk.specs.MapBooks.{poke_turn}
 use Rattle.pcm_desk.specs.MapRequests.{map_ask, map_set_volume, map_triggered}
 use Rattle.pcm_desk.specs.BookTurns.{doing, refused, telling}
 use Rattle.pcm_desk.proofs.Openings.{opening-ask-silent}
@@ -77,10 +78,10 @@ record_set_trigger_in false bits book = refl
 
 -- no bytes come with the reply to a request
 pub record-ask-silent : (request : Request) (book : RecordBook) → bytes_due (record_ask request book).reply ≡ 0
-record-ask-silent (SetFmt code) book = opening-ask-silent (is_record_setup book.state) RECORD_BIT (SetFmt code) book.opening
-record-ask-silent (Speed speed) book = opening-ask-silent (is_record_setup book.state) RECORD_BIT (Speed speed) book.opening
-record-ask-silent (Channels channels) book = opening-ask-silent (is_record_setup book.state) RECORD_BIT (Channels channels) book.opening
-record-ask-silent (SetFragment arg) book = opening-ask-silent (is_record_setup book.state) RECORD_BIT (SetFragment arg) book.opening
+record-ask-silent (SetFmt code) book = opening-ask-silent (is_in_setup book.state) RECORD_BIT (SetFmt code) book.opening
+record-ask-silent (Speed speed) book = opening-ask-silent (is_in_setup book.state) RECORD_BIT (Speed speed) book.opening
+record-ask-silent (Channels channels) book = opening-ask-silent (is_in_setup book.state) RECORD_BIT (Channels channels) book.opening
+record-ask-silent (SetFragment arg) book = opening-ask-silent (is_in_setup book.state) RECORD_BIT (SetFragment arg) book.opening
 record-ask-silent (SetTrigger bits) book = record_set_trigger_in (nat_lt 3 bits) bits book
 record-ask-silent _ book = refl
 
@@ -104,10 +105,10 @@ map_set_trigger_in false bits book = refl
 
 -- nor with that to a request
 pub map-asked-silent : (request : Request) (book : MapBook) → bytes_due (map_ask request book).reply ≡ 0
-map-asked-silent (SetFmt code) book = opening-ask-silent (is_map_setup book.state) PLAY_BIT (SetFmt code) book.opening
-map-asked-silent (Speed speed) book = opening-ask-silent (is_map_setup book.state) PLAY_BIT (Speed speed) book.opening
-map-asked-silent (Channels channels) book = opening-ask-silent (is_map_setup book.state) PLAY_BIT (Channels channels) book.opening
-map-asked-silent (SetFragment arg) book = opening-ask-silent (is_map_setup book.state) PLAY_BIT (SetFragment arg) book.opening
+map-asked-silent (SetFmt code) book = opening-ask-silent (is_in_setup book.state) PLAY_BIT (SetFmt code) book.opening
+map-asked-silent (Speed speed) book = opening-ask-silent (is_in_setup book.state) PLAY_BIT (Speed speed) book.opening
+map-asked-silent (Channels channels) book = opening-ask-silent (is_in_setup book.state) PLAY_BIT (Channels channels) book.opening
+map-asked-silent (SetFragment arg) book = opening-ask-silent (is_in_setup book.state) PLAY_BIT (SetFragment arg) book.opening
 map-asked-silent (SetTrigger bits) book = map_set_trigger_in (nat_lt 3 bits) bits book
 map-asked-silent (SetPlayVol volume) book = map_volume_in (is_volume volume) volume book refl
 map-asked-silent _ book = refl

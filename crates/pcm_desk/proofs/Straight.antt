@@ -26,7 +26,7 @@ use Rattle.pcm_plan.specs.Plans.{converter_of, converting, depth_stages, matrix_
 use Rattle.pcm_plan.specs.Through.{rec, recs, through}
 use Rattle.pcm_plan.specs.Fits.{TurnsEach}
 use Rattle.pcm_plan.proofs.Fits.{each-depth, record-level}
-use Rattle.pcm_desk.specs.Device.{DeviceSeen, device_settings, filters_of, full_frame, is_straight, mix_settings, mixed_for, parent_plan, quality_of}
+use Rattle.pcm_desk.specs.Device.{DeviceSeen, device_settings, device_filters, full_frame, is_straight, mix_settings, mixed_for, parent_plan, device_quality}
 use Rattle.pcm_desk.specs.Channels.{mixed_by}
 
 -- ---- what is equal
@@ -70,7 +70,7 @@ straight-count device handed straight =
     let from = mix_settings device in
     let to = device_settings device in
     let same = eqb-true from.rate to.rate (equal device straight).rate in
-    ap (λ (rate : Rate). need rate handed) (record-level (filters_of device) (quality_of device) to from same)
+    ap (λ (rate : Rate). need rate handed) (record-level (device_filters device) (device_quality device) to from same)
     ∙ need-unchanged handed
 
 -- so an interrupt mixes as many as it gives to the device
@@ -105,14 +105,14 @@ straight-stages device straight =
         is.channels
 
     rated : ℕ → List Spec
-    rated channels = rate_stages (filters_of device) (quality_of device) from.rate to.rate channels
+    rated channels = rate_stages (device_filters device) (device_quality device) from.rate to.rate channels
 
     level : (channels : ℕ) → rated channels ≡ []
     level channels =
-        let converter = converter_of (filters_of device) (quality_of device) from.rate to.rate channels in
+        let converter = converter_of (device_filters device) (device_quality device) from.rate to.rate channels in
         cond-true (from.rate == to.rate) [] (converter ∷ []) is.rate
 
-    nothing : converting (filters_of device) (quality_of device) from to ≡ []
+    nothing : converting (device_filters device) (device_quality device) from to ≡ []
     nothing =
         let source = channels_of from.layout in
         let target = channels_of to.layout in
@@ -159,9 +159,9 @@ depth-back tables bits channels x k frame here =
 -- where a mixed frame gets to the plan at 32 bits, the device is given it as it was mixed
 straight-at : (device : DeviceSeen) (x : List Frame) (k : ℕ) (frame : Frame) → is_straight device ≡ true
     → stream_of (channels_of (mix_settings device).layout) x (pos k) ≡ full_frame device frame
-    → rec (parent_plan device) (filters_of device) x k ≡ frame
+    → rec (parent_plan device) (device_filters device) x k ≡ frame
 straight-at device x k frame straight here =
-    let tables = filters_of device in
+    let tables = device_filters device in
     let to = device_settings device in
     let sound = stream_of (channels_of (mix_settings device).layout) x in
     ap (λ (specs : List Spec). through tables unity specs sound (pos k)) (straight-stages device straight)
@@ -170,11 +170,11 @@ straight-at device x k frame straight here =
 
 -- after any others, the device is given mixed frames as they were mixed
 pub straight-behind : (device : DeviceSeen) (x frames : List Frame) → is_straight device ≡ true
-    → recs (parent_plan device) (filters_of device) (x ++ map (full_frame device) frames) (length x) (length frames)
+    → recs (parent_plan device) (device_filters device) (x ++ map (full_frame device) frames) (length x) (length frames)
     ≡ frames
 straight-behind device x frames straight =
     let raised = map (full_frame device) frames in
-    let given : ℕ → Frame = rec (parent_plan device) (filters_of device) (x ++ raised) in
+    let given : ℕ → Frame = rec (parent_plan device) (device_filters device) (x ++ raised) in
     let s = silence (channels_of (mix_settings device).layout) in
     let none : length x + 0 ≡ length x = omega arith in
     sym (fill_by_all (λ i. given (length x + i)) frames (length frames) [] refl
@@ -186,7 +186,7 @@ straight-behind device x frames straight =
 -- the device is given a mixed frame as it was mixed
 pub straight-rec : (device : DeviceSeen) (frames : List Frame) (k : ℕ) (other : Frame)
     → is_straight device ≡ true → k < length frames
-    → rec (parent_plan device) (filters_of device) (map (full_frame device) frames) k ≡ get_or frames k other
+    → rec (parent_plan device) (device_filters device) (map (full_frame device) frames) k ≡ get_or frames k other
 straight-rec device frames k other straight below =
     let s = silence (channels_of (mix_settings device).layout) in
     straight-at device (map (full_frame device) frames) k (get_or frames k other) straight
@@ -195,11 +195,11 @@ straight-rec device frames k other straight below =
 -- and so are several
 pub straight-recs : (device : DeviceSeen) (frames : List Frame) (from n : ℕ)
     → is_straight device ≡ true → from + n ≤ length frames
-    → recs (parent_plan device) (filters_of device) (map (full_frame device) frames) from n
+    → recs (parent_plan device) (device_filters device) (map (full_frame device) frames) from n
     ≡ take n (drop from frames)
 straight-recs device frames from n straight within =
     let none : from + 0 ≡ from = omega arith in
-    let given : ℕ → Frame = rec (parent_plan device) (filters_of device) (map (full_frame device) frames) in
+    let given : ℕ → Frame = rec (parent_plan device) (device_filters device) (map (full_frame device) frames) in
     let part = take n (drop from frames) in
     let count : length part ≡ n = omega (arith, within, length-take n (drop from frames), length-drop from frames) in
     sym (fill_by_all (λ i. given (from + i)) part n [] count
@@ -210,7 +210,7 @@ straight-recs device frames from n straight within =
 -- where each frame is mixed from its place
 pub straight-mixed : (device : DeviceSeen) (mix : ℕ → Frame) (count from n : ℕ)
     → is_straight device ≡ true → from + n ≤ count
-    → recs (parent_plan device) (filters_of device)
+    → recs (parent_plan device) (device_filters device)
     (map (full_frame device) (map mix (range_with_len 0 count))) from n
     ≡ map mix (range_with_len from n)
 straight-mixed device mix count from n straight within =

@@ -26,9 +26,10 @@ use Rattle.pcm_desk.specs.BookTurns.{doing, refused, telling}
 use Rattle.pcm_desk.specs.PlayBooks.{close_turn, is_play_free, is_play_setup, play_begun, play_settled, refilled, write_turn}
 use Rattle.pcm_desk.specs.PlayRequests.{play_ask}
 use Rattle.pcm_desk.specs.RecordBooks as records
-use Rattle.pcm_desk.specs.RecordBooks.{is_record_free, is_record_setup, record_begun}
+use Rattle.pcm_desk.specs.RunStates.{is_unheld, is_in_setup}
+use Rattle.pcm_desk.specs.RecordBooks.{record_begun}
 use Rattle.pcm_desk.specs.RecordRequests.{record_ask}
-use Rattle.pcm_desk.specs.MapBooks.{is_map_free, is_map_setup, map_begun, map_closed, map_refilled, poke_turn}
+use Rattle.pcm_desk.specs.MapBooks.{map_begun, map_closed, map_refilled, poke_turn}
 use Rattle.pcm_desk.specs.MapRequests.{map_ask}
 
 -- the book of a channel, whatever its way
@@ -55,14 +56,14 @@ channel_begun way settings = by_way way (Playing (play_begun settings)) (Recordi
 -- no descriptor has it, and it has nothing left to play
 abbrev pub is_free : Channel → Bool
 is_free (Playing book) = is_play_free book.state
-is_free (Recording book) = is_record_free book.state
-is_free (Mapped book) = is_map_free book.state
+is_free (Recording book) = is_unheld book.state
+is_free (Mapped book) = is_unheld book.state
 
 -- it has no bytes of a run: it is in Setup
 abbrev pub rests : Channel → Bool
 rests (Playing book) = is_play_setup book.state
-rests (Recording book) = is_record_setup book.state
-rests (Mapped book) = is_map_setup book.state
+rests (Recording book) = is_in_setup book.state
+rests (Mapped book) = is_in_setup book.state
 
 -- the state of a channel that plays and that a descriptor may hold: it isn't free, and doesn't drain after a close
 abbrev pub is_held : PlayState → Bool

@@ -17,17 +17,17 @@ use Rattle.pcm_mixdev.specs.Mixers.{Levels, full_mixer, mixer_after, mixer_reply
 use Rattle.pcm_desk.specs.declared.play_book.PlayBook.{PlayBook}
 use Rattle.pcm_desk.specs.declared.play_book.PlayState.TheVariants.{Free}
 use Rattle.pcm_desk.specs.declared.record_book.RecordBook.{RecordBook}
-use Rattle.pcm_desk.specs.declared.record_book.RecordState.TheVariants as record_states
+use Rattle.pcm_desk.specs.declared.run_state.RunState.TheVariants as run_states
 use Rattle.pcm_desk.specs.declared.map_book.MapBook.{MapBook}
-use Rattle.pcm_desk.specs.declared.map_book.MapState.TheVariants as map_states
 use Rattle.pcm_desk.specs.declared.device.Held.{Held}
 use Rattle.pcm_desk.specs.declared.here.Here.{Here}
 use Rattle.pcm_desk.specs.declared.limits.TheConstants.{DESCRIPTORS}
 use Rattle.pcm_desk.specs.declared.turn.Turn.{Turn}
 use Rattle.pcm_desk.specs.Device.{DeviceSeen, device_settings, here_at, mix_settings, mixed_slots, map_slots, play_slots, record_slots}
 use Rattle.pcm_desk.specs.PlayBooks.{is_play_free, play_begun, play_is_ready}
-use Rattle.pcm_desk.specs.RecordBooks.{is_record_free, record_begun}
-use Rattle.pcm_desk.specs.MapBooks.{is_map_free, map_begun}
+use Rattle.pcm_desk.specs.RunStates.{is_unheld}
+use Rattle.pcm_desk.specs.RecordBooks.{record_begun}
+use Rattle.pcm_desk.specs.MapBooks.{map_begun}
 use Rattle.pcm_desk.specs.Channels.{Channel, Grouping, Mapped, Playing, Recording, by_way, capturing, channel_begun, join_result, map_passing, mixed_by, own_turn, play_passing, play_starting, record_starting, rests}
 
 pub record Desk : Type 0 where
@@ -59,11 +59,11 @@ play_unopened device = record (play_begun (mix_settings device)) { state = Free 
 
 -- a record book that nobody has opened yet
 abbrev pub record_unopened : DeviceSeen → RecordBook
-record_unopened device = record (record_begun (device_settings device)) { state = record_states.Free }
+record_unopened device = record (record_begun (device_settings device)) { state = run_states.Free }
 
 -- a mapped book that nobody has opened yet
 abbrev pub map_unopened : DeviceSeen → MapBook
-map_unopened device = record (map_begun (mix_settings device)) { state = map_states.Free }
+map_unopened device = record (map_begun (mix_settings device)) { state = run_states.Free }
 
 -- before the first event
 abbrev pub desk_at_start : DeviceSeen → Desk
@@ -96,7 +96,7 @@ play_at device desk slot = slice_index_or desk.play slot (play_unopened device)
 
 -- the least slot for recording that is free
 abbrev pub least_free_record : List RecordBook → Option ℕ
-least_free_record books = position (λ book. is_record_free book.state) books
+least_free_record books = position (λ book. is_unheld book.state) books
 
 -- the record book of a slot
 abbrev pub record_at : DeviceSeen → Desk → ℕ → RecordBook
@@ -104,7 +104,7 @@ record_at device desk slot = slice_index_or desk.recording slot (record_unopened
 
 -- the least slot for a mapped area that is free
 abbrev pub least_free_map : List MapBook → Option ℕ
-least_free_map books = position (λ book. is_map_free book.state) books
+least_free_map books = position (λ book. is_unheld book.state) books
 
 -- the mapped book of a slot
 abbrev pub map_at : DeviceSeen → Desk → ℕ → MapBook

@@ -19,30 +19,30 @@ use Rattle.pcm_oss.specs.declared.event.TheConstants.{SLOTS}
 
 pub record DeviceSeen : Type 0 where
   -- the frames that the device is given, and captures
-  pub settings : Settings
+  pub device_settings : Settings
   -- the frames that are mixed
-  pub mix : Settings
-  pub slots : ℕ
-  pub recorders : ℕ
+  pub mix_settings : Settings
+  pub play_slots : ℕ
+  pub record_slots : ℕ
   -- those with a mapped area
-  pub maps : ℕ
-  pub ring : ℕ
-  pub block : ℕ
-  pub quality : ℕ
-  pub filters : Filters
+  pub map_slots : ℕ
+  pub ring_frames : ℕ
+  pub block_frames : ℕ
+  pub device_quality : ℕ
+  pub device_filters : Filters
 
 -- a device as the rules see it, with the filters and sections of its run
 abbrev pub seen : Filters → Device → DeviceSeen
 seen filters device = record {
-  settings = device.settings;
-  mix = device.mix;
-  slots = device.play_slots;
-  recorders = device.record_slots;
-  maps = device.map_slots;
-  ring = device.ring_frames;
-  block = device.block_frames;
-  quality = device.quality;
-  filters = filters;
+  device_settings = device.settings;
+  mix_settings = device.mix;
+  play_slots = device.play_slots;
+  record_slots = device.record_slots;
+  map_slots = device.map_slots;
+  ring_frames = device.ring_frames;
+  block_frames = device.block_frames;
+  device_quality = device.quality;
+  device_filters = filters;
 }
 
 -- a device whose run has neither a filter nor a section
@@ -51,23 +51,23 @@ unfiltered device = seen no_filters device
 
 -- the settings of the frames that the device is given
 abbrev pub device_settings : DeviceSeen → Settings
-device_settings device = device.settings
+device_settings device = device.device_settings
 
 -- the settings of the mix
 abbrev pub mix_settings : DeviceSeen → Settings
-mix_settings device = device.mix
+mix_settings device = device.mix_settings
 
 -- how many clients can play at once
 abbrev pub play_slots : DeviceSeen → ℕ
-play_slots device = device.slots
+play_slots device = device.play_slots
 
 -- how many clients can record at once
 abbrev pub record_slots : DeviceSeen → ℕ
-record_slots device = device.recorders
+record_slots device = device.record_slots
 
 -- how many clients can have a mapped area at once
 abbrev pub map_slots : DeviceSeen → ℕ
-map_slots device = device.maps
+map_slots device = device.map_slots
 
 -- how many slots are mixed: those that play, and after them those of mapped areas
 abbrev pub mixed_slots : DeviceSeen → ℕ
@@ -75,27 +75,27 @@ mixed_slots device = play_slots device + map_slots device
 
 -- the frames of the device's ring
 abbrev pub ring_frames : DeviceSeen → ℕ
-ring_frames device = device.ring
+ring_frames device = device.ring_frames
 
 -- the frames of an interrupt that names no number
 abbrev pub block_frames : DeviceSeen → ℕ
-block_frames device = device.block
+block_frames device = device.block_frames
 
 -- the bytes of a frame that the device is given
 abbrev pub device_frame_bytes : DeviceSeen → ℕ
 device_frame_bytes device = frame_bytes (device_settings device)
 
 -- the quality of the device's converters
-abbrev pub quality_of : DeviceSeen → ℕ
-quality_of device = device.quality
+abbrev pub device_quality : DeviceSeen → ℕ
+device_quality device = device.device_quality
 
 -- the filters that the device's converters may use
-abbrev pub filters_of : DeviceSeen → Filters
-filters_of device = device.filters
+abbrev pub device_filters : DeviceSeen → Filters
+device_filters device = device.device_filters
 
 -- the plan from a client with these settings to the mix
 abbrev pub play_plan_between : DeviceSeen → Settings → PlanSeen
-play_plan_between device settings = plan_play (filters_of device) (quality_of device) settings (mix_settings device)
+play_plan_between device settings = plan_play (device_filters device) (device_quality device) settings (mix_settings device)
 
 -- the change of rate from a client with these settings to the mix
 abbrev pub play_rate_between : DeviceSeen → Settings → Rate
@@ -103,7 +103,7 @@ play_rate_between device settings = rate_in_plan (play_plan_between device setti
 
 -- the plan from the device to a client that records with these settings
 abbrev pub record_plan_between : DeviceSeen → Settings → PlanSeen
-record_plan_between device settings = plan_record (filters_of device) (quality_of device) settings (device_settings device)
+record_plan_between device settings = plan_record (device_filters device) (device_quality device) settings (device_settings device)
 
 -- the change of rate from the device to a client that records with these settings
 abbrev pub record_rate_between : DeviceSeen → Settings → Rate
@@ -111,7 +111,7 @@ record_rate_between device settings = rate_in_plan (record_plan_between device s
 
 -- the plan from the mix to the device's frames
 abbrev pub parent_plan : DeviceSeen → PlanSeen
-parent_plan device = plan_record (filters_of device) (quality_of device) (device_settings device) (mix_settings device)
+parent_plan device = plan_record (device_filters device) (device_quality device) (device_settings device) (mix_settings device)
 
 -- the change of rate from the mix to the device's frames
 abbrev pub parent_rate : DeviceSeen → Rate
@@ -146,7 +146,7 @@ here_at device handed = record { mixed = mixed_for device handed; passed = passe
 pub record IsDevice (device : DeviceSeen) : Type 0 where
   pub rate : IsRate (device_settings device).rate
   pub mix_rate : IsRate (mix_settings device).rate
-  pub filters : AreFilters (filters_of device)
+  pub filters : AreFilters (device_filters device)
 
 -- both rates of a device, whatever its filters
 pub record HasRates (device : Device) : Type 0 where
@@ -169,4 +169,4 @@ pub record IsInLimits (device : DeviceSeen) : Type 0 where
   pub mix_most : mix_frames device ≤ MIX_FRAMES
   pub slots_most : mixed_slots device ≤ SLOTS
   pub recorders_most : record_slots device ≤ SLOTS
-  pub quality : quality_of device ≤ QUALITY_MOST
+  pub quality : device_quality device ≤ QUALITY_MOST

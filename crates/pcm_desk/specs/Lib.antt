@@ -6,6 +6,7 @@ pub mod Openings
 pub mod PlayBooks
 pub mod PlayRequests
 pub mod PlaySafe
+pub mod RunStates
 pub mod RecordBooks
 pub mod RecordRequests
 pub mod RecordSafe

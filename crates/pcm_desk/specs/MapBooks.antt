@@ -1,6 +1,6 @@
 -- The book of one mapped opening: what is counted, and what each event does to it. Its client writes into an area, of as many bytes as a
 -- ring of its fragments, and the device takes what stands there. No book looks at another.
-use Rattle.std.specs.Prelude.{ℕ, ◌+◌, ◌*◌, Bool, true, false, nat_lt, if◌then◌else◌}
+use Rattle.std.specs.Prelude.{ℕ, ◌+◌, ◌*◌, nat_lt, if◌then◌else◌}
 use Rattle.pcm_format.specs.declared.settings.Settings.{Settings}
 use Rattle.pcm_oss.specs.declared.reply.Errno.TheVariants.{Inval}
 use Rattle.pcm_oss.specs.declared.volume.TheConstants.{VOLUME}
@@ -8,24 +8,12 @@ use Rattle.pcm_format.specs.Frames.{frame_bytes}
 use Rattle.pcm_rate.specs.declared.rate.Rate.{Rate}
 use Rattle.pcm_rate.specs.Rates.{need}
 use Rattle.pcm_desk.specs.declared.map_book.MapBook.{MapBook}
-use Rattle.pcm_desk.specs.declared.map_book.MapState.{MapState}
-use Rattle.pcm_desk.specs.declared.map_book.MapState.TheVariants.{Free, Setup, Running}
+use Rattle.pcm_desk.specs.declared.run_state.RunState.{RunState}
+use Rattle.pcm_desk.specs.declared.run_state.RunState.TheVariants.{Free, Setup, Running}
 use Rattle.pcm_desk.specs.declared.turn.Turn.{Turn}
 use Rattle.pcm_desk.specs.Openings as openings
 use Rattle.pcm_desk.specs.Openings.{ring_bytes}
 use Rattle.pcm_desk.specs.BookTurns.{doing, refused}
-
-abbrev pub is_map_free : MapState → Bool
-is_map_free Free = true
-is_map_free state = false
-
-abbrev pub is_map_setup : MapState → Bool
-is_map_setup Setup = true
-is_map_setup state = false
-
-abbrev pub is_map_running : MapState → Bool
-is_map_running Running = true
-is_map_running state = false
 
 -- the bytes that the device has taken since the start
 abbrev pub taken_of : MapBook → ℕ
@@ -36,7 +24,7 @@ abbrev pub map_begun : Settings → MapBook
 map_begun settings = record { opening = openings.begun settings; volume = VOLUME; state = Setup; eaten = 0; given = 0 }
 
 -- nothing of a run is left, and positions begin at 0 again
-abbrev pub map_emptied : MapState → MapBook → MapBook
+abbrev pub map_emptied : RunState → MapBook → MapBook
 map_emptied state book = record book { opening = record book.opening { told = 0 }; state = state; eaten = 0; given = 0 }
 
 -- a run ends
@@ -56,7 +44,7 @@ abbrev pub map_gives : Rate → ℕ → MapBook → MapBook
 map_gives rate n book = record book { eaten = need rate (book.given + n); given = book.given + n }
 
 -- an interrupt that mixes n frames
-abbrev pub map_refilled_in : Rate → MapState → ℕ → MapBook → MapBook
+abbrev pub map_refilled_in : Rate → RunState → ℕ → MapBook → MapBook
 map_refilled_in rate Running n book = map_gives rate n book
 map_refilled_in rate state n book = book
 

@@ -7,14 +7,15 @@ use Rattle.pcm_oss.specs.declared.request.Request.TheVariants.{GetOPtr, GetError
 use Rattle.pcm_oss.specs.Volumes.{is_volume}
 use Rattle.pcm_desk.specs.declared.opening.Opening.{Opening}
 use Rattle.pcm_desk.specs.declared.map_book.MapBook.{MapBook}
-use Rattle.pcm_desk.specs.declared.map_book.MapState.{MapState}
-use Rattle.pcm_desk.specs.declared.map_book.MapState.TheVariants.{Setup, Running}
+use Rattle.pcm_desk.specs.declared.run_state.RunState.{RunState}
+use Rattle.pcm_desk.specs.declared.run_state.RunState.TheVariants.{Setup, Running}
 use Rattle.pcm_desk.specs.declared.play_requests.TheConstants.{PLAY_BIT}
 use Rattle.pcm_desk.specs.declared.turn.Turn.{Turn}
 use Rattle.pcm_desk.specs.Openings as openings
 use Rattle.pcm_desk.specs.Openings.{tell_pointer, with_trigger}
 use Rattle.pcm_desk.specs.PlayRequests.{has_play_bit}
-use Rattle.pcm_desk.specs.MapBooks.{is_map_setup, map_halted, taken_of}
+use Rattle.pcm_desk.specs.RunStates.{is_in_setup}
+use Rattle.pcm_desk.specs.MapBooks.{map_halted, taken_of}
 use Rattle.pcm_desk.specs.BookTurns.{doing, refused, telling}
 
 -- what was done to the opening of a book
@@ -32,7 +33,7 @@ abbrev pub map_with_trigger : Bool → MapBook → MapBook
 map_with_trigger trigger book = record book { opening = with_trigger trigger book.opening }
 
 -- a book in Setup starts
-abbrev pub map_roused_in : MapState → MapBook → MapBook
+abbrev pub map_roused_in : RunState → MapBook → MapBook
 map_roused_in Setup book = record book { state = Running }
 map_roused_in state book = book
 
@@ -41,7 +42,7 @@ abbrev pub map_posted : MapBook → MapBook
 map_posted book = if book.opening.trigger then map_roused_in book.state book else book
 
 -- a running book stops
-abbrev pub map_stopped_in : MapState → MapBook → MapBook
+abbrev pub map_stopped_in : RunState → MapBook → MapBook
 map_stopped_in Running book = map_halted book
 map_stopped_in state book = book
 
@@ -67,4 +68,4 @@ map_ask GetPlayVol book = telling (Number book.volume) book
 map_ask Post book = doing (map_posted book)
 map_ask Sync book = doing book
 map_ask Halt book = doing (map_halted book)
-map_ask request book = map_with_opening book (openings.ask (is_map_setup book.state) PLAY_BIT request book.opening)
+map_ask request book = map_with_opening book (openings.ask (is_in_setup book.state) PLAY_BIT request book.opening)

@@ -5,12 +5,12 @@ use Rattle.pcm_oss.specs.Volumes.{is_volume}
 use Rattle.pcm_rate.specs.declared.rate.Rate.{Rate}
 use Rattle.pcm_rate.specs.Rates.{need}
 use Rattle.pcm_desk.specs.declared.map_book.MapBook.{MapBook}
-use Rattle.pcm_desk.specs.declared.map_book.MapState.{MapState}
-use Rattle.pcm_desk.specs.declared.map_book.MapState.TheVariants.{Running}
+use Rattle.pcm_desk.specs.declared.run_state.RunState.{RunState}
+use Rattle.pcm_desk.specs.declared.run_state.RunState.TheVariants.{Running}
 use Rattle.pcm_desk.specs.MapBooks.{taken_of}
 
 -- a book that isn't running counts nothing
-abbrev pub IsMapInOrder : MapState → MapBook → Type 0
+abbrev pub IsMapInOrder : RunState → MapBook → Type 0
 IsMapInOrder Running book = Unit {0}
 IsMapInOrder state book = book.given ≡ 0
 

@@ -11,7 +11,7 @@ use Rattle.pcm_desk.specs.declared.play_book.PlayState.TheVariants.{Setup}
 use Rattle.pcm_desk.specs.declared.device.Held.{Held}
 use Rattle.pcm_desk.specs.Device.{DeviceSeen, here_at}
 use Rattle.pcm_desk.specs.PlayBooks.{is_primed}
-use Rattle.pcm_desk.specs.RecordBooks.{is_record_setup}
+use Rattle.pcm_desk.specs.RunStates.{is_in_setup}
 use Rattle.pcm_desk.specs.Channels.{Channel, Mapped, Playing, Recording, by_way, may_be_held, own_turn, starting}
 use Rattle.pcm_desk.specs.Desk.{Desk, channel_at, group_of, grouping_at, groups_after, held_by, is_member}
 
@@ -98,7 +98,7 @@ is_waiting state = is_primed state
 -- A channel waits for the start of its group: it hasn't started, and its trigger is off. A mapped one waits for none.
 abbrev pub Waits : Channel → Type 0
 Waits (Playing book) = (is_waiting book.state ≡ true) × (book.opening.trigger ≡ false)
-Waits (Recording book) = (is_record_setup book.state ≡ true) × (book.opening.trigger ≡ false)
+Waits (Recording book) = (is_in_setup book.state ≡ true) × (book.opening.trigger ≡ false)
 Waits (Mapped book) = ⊥
 
 -- each member of a group does

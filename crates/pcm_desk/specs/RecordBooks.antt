@@ -1,5 +1,5 @@
 -- The book of one record opening: what is counted, and what each event does to it. No book looks at another.
-use Rattle.std.specs.Prelude.{ℕ, ◌+◌, ◌-◌, ◌*◌, ◌/◌, ◌^◌, min, Bool, true, false, ◌&&◌, nat_lt, ◌==◌, if◌then◌else◌}
+use Rattle.std.specs.Prelude.{ℕ, ◌+◌, ◌-◌, ◌*◌, ◌/◌, ◌^◌, min, ◌&&◌, nat_lt, ◌==◌, if◌then◌else◌}
 use Rattle.pcm_format.specs.declared.settings.Settings.{Settings}
 use Rattle.pcm_oss.specs.declared.reply.Answer.TheVariants.{Got}
 use Rattle.pcm_oss.specs.declared.reply.Errno.TheVariants.{Again}
@@ -7,24 +7,12 @@ use Rattle.pcm_format.specs.Frames.{frame_bytes}
 use Rattle.pcm_rate.specs.declared.rate.Rate.{Rate}
 use Rattle.pcm_rate.specs.Rates.{can}
 use Rattle.pcm_desk.specs.declared.record_book.RecordBook.{RecordBook}
-use Rattle.pcm_desk.specs.declared.record_book.RecordState.{RecordState}
-use Rattle.pcm_desk.specs.declared.record_book.RecordState.TheVariants.{Free, Setup, Running}
+use Rattle.pcm_desk.specs.declared.run_state.RunState.{RunState}
+use Rattle.pcm_desk.specs.declared.run_state.RunState.TheVariants.{Free, Setup, Running}
 use Rattle.pcm_desk.specs.declared.turn.Turn.{Turn}
 use Rattle.pcm_desk.specs.Openings as openings
 use Rattle.pcm_desk.specs.Openings.{ring_bytes}
 use Rattle.pcm_desk.specs.BookTurns.{refused, telling}
-
-abbrev pub is_record_free : RecordState → Bool
-is_record_free Free = true
-is_record_free state = false
-
-abbrev pub is_record_setup : RecordState → Bool
-is_record_setup Setup = true
-is_record_setup state = false
-
-abbrev pub is_running : RecordState → Bool
-is_running Running = true
-is_running state = false
 
 -- the bytes that wait in the ring
 abbrev pub record_fill_of : RecordBook → ℕ
@@ -57,7 +45,7 @@ record_begun settings = record {
 }
 
 -- all bytes are dropped, and positions begin at 0 again
-abbrev pub record_emptied : RecordState → RecordBook → RecordBook
+abbrev pub record_emptied : RunState → RecordBook → RecordBook
 record_emptied state book = record book {
   opening = record book.opening { told = 0 };
   state = state;
@@ -95,7 +83,7 @@ captures rate n book = record book {
 }
 
 -- an interrupt that captures n frames
-abbrev pub captured_in : Rate → RecordState → ℕ → RecordBook → RecordBook
+abbrev pub captured_in : Rate → RunState → ℕ → RecordBook → RecordBook
 captured_in rate Running n book = captures rate n book
 captured_in rate state n book = book
 

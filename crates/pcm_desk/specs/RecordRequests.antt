@@ -6,13 +6,14 @@ use Rattle.pcm_oss.specs.declared.request.Request.{Request}
 use Rattle.pcm_oss.specs.declared.request.Request.TheVariants.{GetISpace, GetIPtr, GetError, SetTrigger, Post, Sync, Halt}
 use Rattle.pcm_desk.specs.declared.opening.Opening.{Opening}
 use Rattle.pcm_desk.specs.declared.record_book.RecordBook.{RecordBook}
-use Rattle.pcm_desk.specs.declared.record_book.RecordState.{RecordState}
-use Rattle.pcm_desk.specs.declared.record_book.RecordState.TheVariants.{Setup, Running}
+use Rattle.pcm_desk.specs.declared.run_state.RunState.{RunState}
+use Rattle.pcm_desk.specs.declared.run_state.RunState.TheVariants.{Setup, Running}
 use Rattle.pcm_desk.specs.declared.record_requests.TheConstants.{RECORD_BIT}
 use Rattle.pcm_desk.specs.declared.turn.Turn.{Turn}
 use Rattle.pcm_desk.specs.Openings as openings
 use Rattle.pcm_desk.specs.Openings.{space_of, tell_pointer, with_trigger}
-use Rattle.pcm_desk.specs.RecordBooks.{is_record_setup, record_dropped, record_fill_of}
+use Rattle.pcm_desk.specs.RunStates.{is_in_setup}
+use Rattle.pcm_desk.specs.RecordBooks.{record_dropped, record_fill_of}
 use Rattle.pcm_desk.specs.BookTurns.{doing, refused, telling}
 
 -- what was done to the opening of a book
@@ -30,7 +31,7 @@ abbrev pub record_with_trigger : Bool → RecordBook → RecordBook
 record_with_trigger trigger book = record book { opening = with_trigger trigger book.opening }
 
 -- a book in Setup starts
-abbrev pub record_roused_in : RecordState → RecordBook → RecordBook
+abbrev pub record_roused_in : RunState → RecordBook → RecordBook
 record_roused_in Setup book = record book { state = Running }
 record_roused_in state book = book
 
@@ -39,7 +40,7 @@ abbrev pub record_posted : RecordBook → RecordBook
 record_posted book = if book.opening.trigger then record_roused_in book.state book else book
 
 -- a running book drops its bytes
-abbrev pub record_stopped_in : RecordState → RecordBook → RecordBook
+abbrev pub record_stopped_in : RunState → RecordBook → RecordBook
 record_stopped_in Running book = record_dropped book
 record_stopped_in state book = book
 
@@ -67,4 +68,4 @@ record_ask (SetTrigger bits) book = record_set_trigger bits book
 record_ask Post book = doing (record_posted book)
 record_ask Sync book = doing book
 record_ask Halt book = doing (record_dropped book)
-record_ask request book = record_with_opening book (openings.ask (is_record_setup book.state) RECORD_BIT request book.opening)
+record_ask request book = record_with_opening book (openings.ask (is_in_setup book.state) RECORD_BIT request book.opening)

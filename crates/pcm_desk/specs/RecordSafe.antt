@@ -5,8 +5,8 @@ use Rattle.pcm_oss.specs.Fragments.{AreFragments}
 use Rattle.pcm_rate.specs.declared.rate.Rate.{Rate}
 use Rattle.pcm_rate.specs.Rates.{IsRatio, can}
 use Rattle.pcm_desk.specs.declared.record_book.RecordBook.{RecordBook}
-use Rattle.pcm_desk.specs.declared.record_book.RecordState.{RecordState}
-use Rattle.pcm_desk.specs.declared.record_book.RecordState.TheVariants.{Running}
+use Rattle.pcm_desk.specs.declared.run_state.RunState.{RunState}
+use Rattle.pcm_desk.specs.declared.run_state.RunState.TheVariants.{Running}
 use Rattle.pcm_desk.specs.RecordBooks.{coming, keeping, record_fill_of}
 use Rattle.pcm_desk.specs.Openings.{ring_bytes}
 
@@ -17,7 +17,7 @@ pub record IsRecordUnstarted (book : RecordBook) : Type 0 where
   pub read_none : book.read ≡ 0
 
 -- a book that isn't running counts nothing
-abbrev pub IsRecordInOrder : RecordState → RecordBook → Type 0
+abbrev pub IsRecordInOrder : RunState → RecordBook → Type 0
 IsRecordInOrder Running book = Unit {0}
 IsRecordInOrder state book = IsRecordUnstarted book
 

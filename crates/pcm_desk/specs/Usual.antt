@@ -11,4 +11,14 @@ usual_settings = record { format = S16Le; layout = Two; rate = 48000 }
 
 -- a ring of four blocks of 256 frames, four channels that play and four that record, none with a mapped area, converters that draw lines, and no filter
 abbrev pub usual_device : DeviceSeen
-usual_device = record { settings = usual_settings; mix = usual_settings; slots = 4; recorders = 4; maps = 0; ring = 1024; block = 256; quality = 1; filters = no_filters }
+usual_device = record {
+  device_settings = usual_settings;
+  mix_settings = usual_settings;
+  play_slots = 4;
+  record_slots = 4;
+  map_slots = 0;
+  ring_frames = 1024;
+  block_frames = 256;
+  device_quality = 1;
+  device_filters = no_filters;
+}

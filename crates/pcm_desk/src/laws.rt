@@ -18,11 +18,12 @@ ghost use Rattle.pcm_desk.specs.PlayRequests.{play_ask};
 ghost use Rattle.pcm_desk.specs.PlaySafe.{PlayIsHere, PlayIsSafe};
 ghost use Rattle.pcm_desk.specs.declared.record_book.RecordBook.{RecordBook};
 ghost use Rattle.pcm_desk.specs.RecordBooks as records;
-ghost use Rattle.pcm_desk.specs.RecordBooks.{is_record_setup, record_begun};
+ghost use Rattle.pcm_desk.specs.RunStates.{is_in_setup};
+ghost use Rattle.pcm_desk.specs.RecordBooks.{record_begun};
 ghost use Rattle.pcm_desk.specs.RecordRequests.{record_ask};
 ghost use Rattle.pcm_desk.specs.RecordSafe.{RecordIsSafe};
 ghost use Rattle.pcm_desk.specs.declared.map_book.MapBook.{MapBook};
-ghost use Rattle.pcm_desk.specs.MapBooks.{is_map_setup, map_begun, map_closed, map_refilled, poke_turn};
+ghost use Rattle.pcm_desk.specs.MapBooks.{map_begun, map_closed, map_refilled, poke_turn};
 ghost use Rattle.pcm_desk.specs.MapRequests.{map_ask};
 ghost use Rattle.pcm_desk.specs.MapSafe.{MapIsSafe};
 ghost use Rattle.pcm_desk.specs.Device.{DeviceSeen, IsInLimits, here_at, mixed_for, mixed_slots};
@@ -81,7 +82,7 @@ pub fn record_books_stay_in_order()
         → RecordIsSafe rate book → RecordIsSafe rate (records.read_turn length book).book }
     // A request may change the rate, of a book that has nothing captured.
     ensures asked { (rate now : Rate) (request : Request) (book : RecordBook)
-        → (is_record_setup book.state ≡ false → now ≡ rate)
+        → (is_in_setup book.state ≡ false → now ≡ rate)
         → RecordIsSafe rate book → RecordIsSafe now (record_ask request book).book }
     ensures closed { (rate : Rate) (book : RecordBook)
         → RecordIsSafe rate book → RecordIsSafe rate (records.closed book) }
@@ -96,7 +97,7 @@ pub fn map_books_stay_in_order()
         → MapIsSafe rate book → MapIsSafe rate (poke_turn offset count book).book }
     // A request may change the rate, of a book that has nothing taken.
     ensures asked { (rate now : Rate) (request : Request) (book : MapBook)
-        → (is_map_setup book.state ≡ false → now ≡ rate)
+        → (is_in_setup book.state ≡ false → now ≡ rate)
         → MapIsSafe rate book → MapIsSafe now (map_ask request book).book }
     ensures closed { (rate : Rate) (book : MapBook)
         → MapIsSafe rate book → MapIsSafe rate (map_closed book) }

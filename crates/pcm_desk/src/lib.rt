@@ -16,6 +16,7 @@ mod play_requests;
 mod record_book;
 mod record_events;
 mod record_requests;
+mod run_state;
 mod turn;
 
 pub use device::{Device, Held, OPENING, QUALITY_MOST};
@@ -28,10 +29,11 @@ pub use laws::{
 pub use limits::{
     DESCRIPTORS, DEVICE_BYTES, EVENTS, MIX_FRAMES, READ_BYTES, RING_FRAMES, WRITE_BYTES,
 };
-pub use map_book::{MapBook, MapState};
+pub use map_book::MapBook;
 pub use opening::{ALL_FORMATS, CAPABILITIES, Opening};
 pub use play_book::{PlayBook, PlayState};
 pub use play_requests::PLAY_BIT;
-pub use record_book::{RecordBook, RecordState};
+pub use record_book::RecordBook;
 pub use record_requests::RECORD_BIT;
+pub use run_state::RunState;
 pub use turn::Turn;

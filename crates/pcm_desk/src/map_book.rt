@@ -1,17 +1,6 @@
 //! The book of a mapped opening.
 
-use crate::Opening;
-
-/// The state of a mapped channel.
-#[derive(Clone, Copy, Debug, PartialEq, Eq)]
-pub enum MapState {
-    /// No descriptor has it.
-    Free,
-    /// Open, and not started.
-    Setup,
-    /// Started: every interrupt takes what stands in the area.
-    Running,
-}
+use crate::{Opening, RunState};
 
 /// What is counted of a mapped opening.
 #[derive(Clone, Copy, Debug, PartialEq, Eq)]
@@ -19,7 +8,7 @@ pub struct MapBook {
     pub opening: Opening,
     /// The volume that is set.
     pub volume: u32,
-    pub state: MapState,
+    pub state: RunState,
     /// Frames taken out of the area since the start.
     pub eaten: u64,
     /// Frames given to the mix since the start.

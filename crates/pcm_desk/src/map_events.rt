@@ -4,9 +4,10 @@ ghost use Rattle.std.specs.Prelude.{◌≡◌, ◌+◌, ◌*◌, ◌^◌, ◌<�
 ghost use Rattle.pcm_format.specs.Frames.{frame_bytes};
 ghost use Rattle.pcm_rate.specs.Rates.{IsRatio, need};
 ghost use Rattle.pcm_oss.specs.Fragments.{AreFragments};
-ghost use Rattle.pcm_desk.specs.MapBooks.{is_map_free, is_map_running, is_map_setup, map_begun, map_closed, map_emptied, map_gives, map_halted, map_refilled, poke_turn, taken_of};
+ghost use Rattle.pcm_desk.specs.RunStates.{is_unheld, is_running, is_in_setup};
+ghost use Rattle.pcm_desk.specs.MapBooks.{map_begun, map_closed, map_emptied, map_gives, map_halted, map_refilled, poke_turn, taken_of};
 
-use crate::{MapBook, MapState, Opening, Turn};
+use crate::{MapBook, Opening, RunState, Turn};
 use pcm_format::Settings;
 use pcm_oss::{Answer, Errno, VOLUME};
 use pcm_rate::Rate;
@@ -19,7 +20,7 @@ impl MapBook {
         MapBook {
             opening: Opening::begun(settings),
             volume: VOLUME,
-            state: MapState::Setup,
+            state: RunState::Setup,
             eaten: 0,
             given: 0,
         }
@@ -27,23 +28,23 @@ impl MapBook {
 
     /// Whether the channel is free: no descriptor has it.
     pub fn is_free(&self) -> bool
-        ensures { result ≡ is_map_free self.now.state }
+        ensures { result ≡ is_unheld self.now.state }
     {
-        matches!(self.state, MapState::Free)
+        matches!(self.state, RunState::Free)
     }
 
     /// Whether the channel is open and hasn't started.
     pub fn is_setup(&self) -> bool
-        ensures { result ≡ is_map_setup self.now.state }
+        ensures { result ≡ is_in_setup self.now.state }
     {
-        matches!(self.state, MapState::Setup)
+        matches!(self.state, RunState::Setup)
     }
 
     /// Whether the channel has started.
     pub fn is_running(&self) -> bool
-        ensures { result ≡ is_map_running self.now.state }
+        ensures { result ≡ is_running self.now.state }
     {
-        matches!(self.state, MapState::Running)
+        matches!(self.state, RunState::Running)
     }
 
     /// The bytes that the device has taken since the start.
@@ -55,7 +56,7 @@ impl MapBook {
     }
 
     // Nothing of a run is left.
-    fn emptied(self, state: MapState) -> MapBook
+    fn emptied(self, state: RunState) -> MapBook
         ensures { result ≡ map_emptied state self }
     {
         let opening = Opening {
@@ -75,14 +76,14 @@ impl MapBook {
     pub(crate) fn halted(self) -> MapBook
         ensures { result ≡ map_halted self }
     {
-        self.emptied(MapState::Setup)
+        self.emptied(RunState::Setup)
     }
 
     /// The book after a close.
     pub fn closed(self) -> MapBook
         ensures { result ≡ map_closed self }
     {
-        self.emptied(MapState::Free)
+        self.emptied(RunState::Free)
     }
 
     /// The book after `count` bytes were written into the area from `offset` on. What passes its end is refused.
@@ -105,7 +106,7 @@ impl MapBook {
         ensures { result ≡ map_refilled rate n self }
     {
         match self.state {
-            MapState::Running => self.gives(rate, n),
+            RunState::Running => self.gives(rate, n),
             _ => self,
         }
     }

@@ -5,7 +5,7 @@ ghost use Rattle.pcm_format.specs.Frames.{frame_bytes};
 ghost use Rattle.pcm_oss.specs.Fragments.{AreFragments};
 ghost use Rattle.pcm_desk.specs.MapRequests.{map_ask, map_posted, map_roused_in, map_set_trigger, map_set_volume, map_stopped_in, map_triggered, map_with_opening};
 
-use crate::{MapBook, MapState, Opening, PLAY_BIT, Turn};
+use crate::{MapBook, Opening, PLAY_BIT, RunState, Turn};
 use pcm_oss::{Answer, Errno, Request, is_volume};
 
 impl MapBook {
@@ -56,8 +56,8 @@ impl MapBook {
         ensures { result ≡ map_roused_in self.state self }
     {
         match self.state {
-            MapState::Setup => MapBook {
-                state: MapState::Running,
+            RunState::Setup => MapBook {
+                state: RunState::Running,
                 ..self
             },
             _ => self,
@@ -80,7 +80,7 @@ impl MapBook {
         ensures { result ≡ map_stopped_in self.state self }
     {
         match self.state {
-            MapState::Running => self.halted(),
+            RunState::Running => self.halted(),
             _ => self,
         }
     }

@@ -1,23 +1,12 @@
 //! The book of a record opening.
 
-use crate::Opening;
-
-/// The state of a channel that records.
-#[derive(Clone, Copy, Debug, PartialEq, Eq)]
-pub enum RecordState {
-    /// No descriptor has it.
-    Free,
-    /// Open, and not started.
-    Setup,
-    /// Started: every interrupt brings frames.
-    Running,
-}
+use crate::{Opening, RunState};
 
 /// What is counted of an opening that records.
 #[derive(Clone, Copy, Debug, PartialEq, Eq)]
 pub struct RecordBook {
     pub opening: Opening,
-    pub state: RecordState,
+    pub state: RunState,
     /// Frames of the device captured since the start.
     pub captured: u64,
     /// Frames of the client made of them.

@@ -4,10 +4,11 @@ ghost use Rattle.std.specs.Prelude.{◌≡◌, ◌+◌, ◌^◌, ◌<◌, ◌≤
 ghost use Rattle.pcm_rate.specs.Rates.{IsRatio};
 ghost use Rattle.pcm_oss.specs.Fragments.{AreFragments};
 ghost use Rattle.pcm_desk.specs.Openings.{ring_bytes};
-ghost use Rattle.pcm_desk.specs.RecordBooks.{captured, captures, closed, coming, is_record_free, is_record_setup, is_running, keeping, overruns_after, read_turn, record_begun, record_dropped, record_emptied, record_fill_of, record_free_of};
+ghost use Rattle.pcm_desk.specs.RunStates.{is_unheld, is_in_setup, is_running};
+ghost use Rattle.pcm_desk.specs.RecordBooks.{captured, captures, closed, coming, keeping, overruns_after, read_turn, record_begun, record_dropped, record_emptied, record_fill_of, record_free_of};
 ghost use Rattle.pcm_desk.specs.RecordSafe.{CanCapture, CanKeep};
 
-use crate::{Opening, RecordBook, RecordState, Turn};
+use crate::{Opening, RecordBook, RunState, Turn};
 use pcm_format::Settings;
 use pcm_oss::{Answer, Errno};
 use pcm_rate::Rate;
@@ -19,7 +20,7 @@ impl RecordBook {
     {
         RecordBook {
             opening: Opening::begun(settings),
-            state: RecordState::Setup,
+            state: RunState::Setup,
             captured: 0,
             given: 0,
             kept: 0,
@@ -30,23 +31,23 @@ impl RecordBook {
 
     /// Whether the channel is free: no descriptor has it.
     pub fn is_free(&self) -> bool
-        ensures { result ≡ is_record_free self.now.state }
+        ensures { result ≡ is_unheld self.now.state }
     {
-        matches!(self.state, RecordState::Free)
+        matches!(self.state, RunState::Free)
     }
 
     /// Whether the channel has started.
     pub fn is_running(&self) -> bool
         ensures { result ≡ is_running self.now.state }
     {
-        matches!(self.state, RecordState::Running)
+        matches!(self.state, RunState::Running)
     }
 
     /// Whether the channel is open and hasn't started.
     pub fn is_setup(&self) -> bool
-        ensures { result ≡ is_record_setup self.now.state }
+        ensures { result ≡ is_in_setup self.now.state }
     {
-        matches!(self.state, RecordState::Setup)
+        matches!(self.state, RunState::Setup)
     }
 
     /// The bytes that wait in the ring.
@@ -58,7 +59,7 @@ impl RecordBook {
     }
 
     // Nothing of a run is left.
-    fn emptied(self, state: RecordState) -> RecordBook
+    fn emptied(self, state: RunState) -> RecordBook
         ensures { result ≡ record_emptied state self }
     {
         let opening = Opening {
@@ -80,14 +81,14 @@ impl RecordBook {
     pub(crate) fn dropped(self) -> RecordBook
         ensures { result ≡ record_dropped self }
     {
-        self.emptied(RecordState::Setup)
+        self.emptied(RunState::Setup)
     }
 
     /// The book after a close.
     pub fn closed(self) -> RecordBook
         ensures { result ≡ closed self }
     {
-        self.emptied(RecordState::Free)
+        self.emptied(RunState::Free)
     }
 
     /// The book after a read of at most `length` bytes, and how many it gets: as many as wait.
@@ -144,7 +145,7 @@ impl RecordBook {
         ensures { result ≡ captured rate n self }
     {
         match self.state {
-            RecordState::Running => self.captures(rate, n),
+            RunState::Running => self.captures(rate, n),
             _ => self,
         }
     }

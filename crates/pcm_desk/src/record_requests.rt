@@ -6,7 +6,7 @@ ghost use Rattle.pcm_desk.specs.Openings.{ring_bytes};
 ghost use Rattle.pcm_desk.specs.RecordBooks.{record_fill_of};
 ghost use Rattle.pcm_desk.specs.RecordRequests.{record_ask, record_posted, record_roused_in, record_set_trigger, record_stopped_in, record_tell_errors, record_triggered, record_with_opening};
 
-use crate::{Opening, RecordBook, RecordState, Turn};
+use crate::{Opening, RecordBook, RunState, Turn};
 use pcm_oss::{Answer, Errno, Request};
 
 /// The bit of a trigger that a channel which records has (`PCM_ENABLE_INPUT`).
@@ -66,8 +66,8 @@ impl RecordBook {
         ensures { result ≡ record_roused_in self.state self }
     {
         match self.state {
-            RecordState::Setup => RecordBook {
-                state: RecordState::Running,
+            RunState::Setup => RecordBook {
+                state: RunState::Running,
                 ..self
             },
             _ => self,
@@ -90,7 +90,7 @@ impl RecordBook {
         ensures { result ≡ record_stopped_in self.state self }
     {
         match self.state {
-            RecordState::Running => self.dropped(),
+            RunState::Running => self.dropped(),
             _ => self,
         }
     }

@@ -4,8 +4,8 @@ use Rattle.std.specs.Prelude.{All, OnErr}
 use Rattle.pcm_oss.specs.declared.reply.Answer.{Answer}
 use Rattle.pcm_oss.specs.declared.reply.Errno.{Errno}
 use Rattle.pcm_oss.specs.Replies.{bytes_due}
-use Rattle.pcm_fixed.specs.declared.fixed.Fixed.{Fixed}
-use Rattle.pcm_fixed.specs.Fixed.{fixed_items}
+use Rattle.pcm_sequence.specs.declared.fixed.Fixed.{Fixed}
+use Rattle.pcm_sequence.specs.Fixed.{fixed_items}
 use Rattle.pcm_feeder.specs.declared.kind.Kind.{Kind}
 use Rattle.pcm_feeder.specs.Filters.{Filters}
 use Rattle.pcm_feeder.specs.Kept.{Kept}

@@ -3,7 +3,7 @@ use Rattle.std.proofs.Common.{◌≡◌, ℕ, ℤ, ◌+◌, ◌*◌, ◌≤◌, 
 use Rattle.std.specs.Prelude.{IsErr, OnErr}
 use Rattle.pcm_oss.specs.declared.event.Event.{Event}
 use Rattle.pcm_oss.specs.declared.event.Event.TheVariants.{Read, Mixer, Intr}
-use Rattle.pcm_fixed.specs.Fixed.{fixed_len}
+use Rattle.pcm_sequence.specs.Fixed.{fixed_len}
 use Rattle.pcm_format.specs.Layouts.{channels_of}
 use Rattle.pcm_oss.specs.declared.mix_request.MixRequest.{MixRequest}
 use Rattle.pcm_oss.specs.declared.reply.Answer.{Answer}

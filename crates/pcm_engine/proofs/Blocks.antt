@@ -15,16 +15,17 @@ use Rattle.pcm_format.proofs.Ranges.{flat_map-range-same, range-add}
 use Rattle.pcm_rate.specs.declared.rate.Rate.{Rate}
 use Rattle.pcm_feeder.specs.declared.stage.Gain.{Gain}
 use Rattle.pcm_feeder.specs.Layouts.{at_gain}
-use Rattle.pcm_mixdev.specs.Fades.{faded}
+use Rattle.pcm_feeder.specs.Fades.{faded}
 use Rattle.pcm_mixdev.specs.Mixers.{Levels, master_gain, slot_gain}
 use Rattle.pcm_desk.specs.declared.play_book.PlayBook.{PlayBook}
 use Rattle.pcm_desk.specs.declared.play_book.PlayState.{PlayState}
 use Rattle.pcm_desk.specs.declared.play_book.PlayState.TheVariants.{Free, Setup, Running, Draining}
 use Rattle.pcm_desk.specs.PlayBooks.{finished, is_over, is_play_free, play_settled, refilled}
 use Rattle.pcm_desk.specs.declared.map_book.MapBook.{MapBook}
-use Rattle.pcm_desk.specs.declared.map_book.MapState.{MapState}
-use Rattle.pcm_desk.specs.declared.map_book.MapState.TheVariants as map_states
-use Rattle.pcm_desk.specs.MapBooks.{is_map_free, map_refilled_in}
+use Rattle.pcm_desk.specs.declared.run_state.RunState.{RunState}
+use Rattle.pcm_desk.specs.declared.run_state.RunState.TheVariants as run_states
+use Rattle.pcm_desk.specs.RunStates.{is_unheld}
+use Rattle.pcm_desk.specs.MapBooks.{map_refilled_in}
 use Rattle.pcm_desk.specs.Device.{DeviceSeen, map_slots, mix_settings, mixed_for, mixed_slots, passed_for, play_slots}
 use Rattle.pcm_desk.specs.Channels.{map_mixing, map_rate_at, mixed_by, mixing, play_passing, play_rate_at}
 use Rattle.pcm_desk.specs.Desk.{map_at, play_at}
@@ -210,11 +211,11 @@ gains-kept device pool story n slot =
 
 -- nor does it set that of a mapped slot
 record QuietMap (old new : MapBook) : Type 0 where
-  free : is_map_free old.state ≡ true → is_map_free new.state ≡ true
+  free : is_unheld old.state ≡ true → is_unheld new.state ≡ true
   volume : new.volume ≡ old.volume
 
-quiet_taken : (state : MapState) (rate : Rate) (n : ℕ) (book : MapBook) → QuietMap (record book { state = state }) (map_refilled_in rate state n (record book { state = state }))
-quiet_taken map_states.Running rate n book = record { free = λ e. e; volume = refl }
+quiet_taken : (state : RunState) (rate : Rate) (n : ℕ) (book : MapBook) → QuietMap (record book { state = state }) (map_refilled_in rate state n (record book { state = state }))
+quiet_taken run_states.Running rate n book = record { free = λ e. e; volume = refl }
 quiet_taken state rate n book = record { free = λ e. e; volume = refl }
 
 quiet_map : (device : DeviceSeen) (n : ℕ) (book : MapBook) → QuietMap book (map_mixing device n book)
@@ -229,7 +230,7 @@ map_gains-kept device pool story n slot =
     let q : QuietMap old new = subst (QuietMap old) (sym (map_at-passing device story.desk n slot)) (quiet_map device (mixed_by device story.desk.handed n) old) in
     ap (λ (b : Bool). cond b (record { position = story.desk.mixed; gain = map_gain new } ∷ story.map_gains slot)
     (story.map_gains slot))
-    (quiet (is_map_free old.state) (is_map_free new.state) old.volume new.volume q.free q.volume)
+    (quiet (is_unheld old.state) (is_unheld new.state) old.volume new.volume q.free q.volume)
 
 -- what the slots give after an interrupt of n frames
 told_play : (device : DeviceSeen) (pool : Pool) (story : Story) (n slot position : ℕ) → let new : Story = told device pool story (Intr n) in

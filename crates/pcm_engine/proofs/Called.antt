@@ -6,8 +6,8 @@ use Rattle.pcm_oss.specs.declared.event.Event.TheVariants.{StartGroup}
 use Rattle.pcm_oss.specs.Replies.{Reply}
 use Rattle.pcm_wave.specs.declared.pool.Pool.{Pool}
 use Rattle.pcm_wave.specs.Pools.{IsCaptureIn}
-use Rattle.pcm_fixed.specs.Fixed.{fixed_items, with_fixed_items}
-use Rattle.pcm_fixed.proofs.Items.{items-count, items-written}
+use Rattle.pcm_sequence.specs.Fixed.{fixed_items, with_fixed_items}
+use Rattle.pcm_sequence.proofs.Items.{items-count, items-written}
 use Rattle.pcm_feeder.specs.declared.kind.Kind.{Kind}
 use Rattle.pcm_feeder.specs.Filters.{Filters}
 use Rattle.pcm_feeder.specs.Kept.{Kept}

@@ -10,7 +10,8 @@ use Rattle.pcm_wave.specs.Pools.{bytes_at, source_bytes}
 use Rattle.pcm_desk.specs.declared.map_book.MapBook.{MapBook}
 use Rattle.pcm_desk.specs.declared.play_book.PlayBook.{PlayBook}
 use Rattle.pcm_desk.specs.Device.{DeviceSeen}
-use Rattle.pcm_desk.specs.MapBooks.{is_map_running, taken_of}
+use Rattle.pcm_desk.specs.RunStates.{is_running}
+use Rattle.pcm_desk.specs.MapBooks.{taken_of}
 use Rattle.pcm_sound.specs.Runs.{Run, begun_run, taking, newest_bytes}
 use Rattle.pcm_sound.specs.Valid.{IsNewest, MapIsNewest, MapIsValid, SlotIsValid}
 
@@ -37,7 +38,7 @@ newest_taken : (book : MapBook) (runs : List Run) → MapIsNewest book runs → 
 newest_taken book [] h = absurd h
 newest_taken book (run ∷ runs) h = h.1
 
-pub counted-taken : (device : DeviceSeen) (mixed : ℕ) (book : MapBook) (runs : List Run) → MapIsValid device mixed book runs → is_map_running book.state ≡ true → take (taken_of book) (newest_bytes runs) ≡ newest_bytes runs
+pub counted-taken : (device : DeviceSeen) (mixed : ℕ) (book : MapBook) (runs : List Run) → MapIsValid device mixed book runs → is_running book.state ≡ true → take (taken_of book) (newest_bytes runs) ≡ newest_bytes runs
 counted-taken device mixed book runs v on =
     let is = newest_taken book runs (v.newest on) in
     take_all (taken_of book) (newest_bytes runs) (omega arith)

@@ -18,10 +18,11 @@ use Rattle.pcm_desk.specs.declared.device.Device.{Device}
 use Rattle.pcm_oss.specs.declared.event.Way.TheVariants.{Map}
 use Rattle.pcm_desk.specs.declared.device.Held.{Held}
 use Rattle.pcm_desk.specs.declared.map_book.MapBook.{MapBook}
-use Rattle.pcm_desk.specs.declared.map_book.MapState.{MapState}
-use Rattle.pcm_desk.specs.declared.map_book.MapState.TheVariants.{Free, Setup, Running}
-use Rattle.pcm_desk.specs.Device.{DeviceSeen, filters_of, seen}
-use Rattle.pcm_desk.specs.MapBooks.{is_map_free, is_map_running, map_closed, map_refilled_in, taken_of}
+use Rattle.pcm_desk.specs.declared.run_state.RunState.{RunState}
+use Rattle.pcm_desk.specs.declared.run_state.RunState.TheVariants.{Free, Setup, Running}
+use Rattle.pcm_desk.specs.Device.{DeviceSeen, device_filters, seen}
+use Rattle.pcm_desk.specs.RunStates.{is_unheld, is_running}
+use Rattle.pcm_desk.specs.MapBooks.{map_closed, map_refilled_in, taken_of}
 use Rattle.pcm_desk.specs.MapSafe.{MapIsSafe}
 use Rattle.pcm_desk.specs.Channels.{map_mixing, map_rate_at, mixed_by}
 use Rattle.pcm_desk.specs.Desk.{Desk, map_at, map_unopened}
@@ -49,7 +50,7 @@ use Rattle.pcm_engine.specs.Steps.{MapsMove, area_written}
 -- ---- what is taken
 
 -- a book that isn't running has taken nothing
-untaken : (rate : Rate) (book : MapBook) → is_map_running book.state ≡ false → MapIsSafe rate book → taken_of book ≡ 0
+untaken : (rate : Rate) (book : MapBook) → is_running book.state ≡ false → MapIsSafe rate book → taken_of book ≡ 0
 untaken rate book off s =
     let none : book.eaten ≡ 0 = s.taken ∙ ap (need rate) (unstarted-none book.state book off s.order) in
     omega (arith, ap (λ (eaten : ℕ). eaten * frame_bytes book.opening.settings) none)
@@ -66,7 +67,7 @@ no_more taken bytes = sym (ap (take taken) (append-nil (take taken bytes)) ∙ t
 abbrev marked_by : Bool → Bool → ℕ → MapBook → List Run → List Run
 marked_by was is mixed new runs = cond (not was && is) (mapped_run mixed new ∷ runs) (cond (was && not is) (map_stopped mixed runs) runs)
 
-taken_marked : (was is : Bool) (device : DeviceSeen) (mixed : ℕ) (old new : MapBook) (runs : List Run) → is_map_running old.state ≡ was → is_map_running new.state ≡ is → Keeps device old new → MapIsValid device mixed old runs
+taken_marked : (was is : Bool) (device : DeviceSeen) (mixed : ℕ) (old new : MapBook) (runs : List Run) → is_running old.state ≡ was → is_running new.state ≡ is → Keeps device old new → MapIsValid device mixed old runs
     → take (taken_of new) (newest_bytes (marked_by was is mixed new runs)) ≡ take (taken_of new) (take (taken_of old) (newest_bytes runs) ++ [])
 taken_marked true true device mixed old new runs was is k v =
     let g = k.goes v.safe was is in
@@ -82,21 +83,21 @@ taken_marked was false device mixed old new runs e is k v =
 -- after an event that mixes nothing
 taken-marked : (device : DeviceSeen) (mixed : ℕ) (old new : MapBook) (runs : List Run) → Keeps device old new → MapIsValid device mixed old runs
     → take (taken_of new) (newest_bytes (map_marking mixed old new runs)) ≡ take (taken_of new) (take (taken_of old) (newest_bytes runs) ++ [])
-taken-marked device mixed old new runs k v = taken_marked (is_map_running old.state) (is_map_running new.state) device mixed old new runs refl refl k v
+taken-marked device mixed old new runs k v = taken_marked (is_running old.state) (is_running new.state) device mixed old new runs refl refl k v
 
 -- nothing is taken of an area from a place to the same
 nothing_of : (area : List ℕ) (taken : ℕ) → area_bytes area taken (taken - taken) ≡ []
 nothing_of area taken = let none : taken - taken ≡ 0 = omega arith in ap (area_bytes area taken) none
 
 -- of a slot that doesn't run
-idle_taken : (device : DeviceSeen) (mixed n : ℕ) (book : MapBook) (area : List ℕ) (runs : List Run) → is_map_running book.state && nat_lt 0 n ≡ false
+idle_taken : (device : DeviceSeen) (mixed n : ℕ) (book : MapBook) (area : List ℕ) (runs : List Run) → is_running book.state && nat_lt 0 n ≡ false
     → take (taken_of book) (newest_bytes (map_playing device mixed n book area runs)) ≡ take (taken_of book) (take (taken_of book) (newest_bytes runs) ++ area_bytes area (taken_of book) (taken_of book - taken_of book))
 idle_taken device mixed n book area runs off =
     ap (λ all. take (taken_of book) (newest_bytes all)) (map_playing-idle device mixed n book area runs off)
     ∙ no_more (taken_of book) (newest_bytes runs)
     ∙ ap (λ more. take (taken_of book) (take (taken_of book) (newest_bytes runs) ++ more)) (sym (nothing_of area (taken_of book)))
 
-taken_in : (state : MapState) (device : DeviceSeen) (mixed n : ℕ) (book : MapBook) (area : List ℕ) (runs : List Run) → MapIsValid device mixed (record book { state = state }) runs
+taken_in : (state : RunState) (device : DeviceSeen) (mixed n : ℕ) (book : MapBook) (area : List ℕ) (runs : List Run) → MapIsValid device mixed (record book { state = state }) runs
     → let old : MapBook = record book { state = state } in let new : MapBook = map_refilled_in (map_rate_at device book) state (suc n) old in
     take (taken_of new) (newest_bytes (map_playing device mixed (suc n) old area runs)) ≡ take (taken_of new) (take (taken_of old) (newest_bytes runs) ++ area_bytes area (taken_of old) (taken_of new - taken_of old))
 taken_in Free device mixed n book area runs v = idle_taken device mixed (suc n) (record book { state = Free }) area runs refl
@@ -113,7 +114,7 @@ taken_in Running device mixed n book area (run ∷ runs) v =
 -- after an interrupt
 taken-played : (device : DeviceSeen) (mixed n : ℕ) (book : MapBook) (area : List ℕ) (runs : List Run) → MapIsValid device mixed book runs
     → take (taken_of (map_mixing device n book)) (newest_bytes (map_playing device mixed n book area runs)) ≡ take (taken_of (map_mixing device n book)) (take (taken_of book) (newest_bytes runs) ++ area_taken device n book area)
-taken-played device mixed zero book area runs v = idle_taken device mixed zero book area runs (none-mixed (is_map_running book.state))
+taken-played device mixed zero book area runs v = idle_taken device mixed zero book area runs (none-mixed (is_running book.state))
 taken-played device mixed (suc n) book area runs v = taken_in book.state device mixed n book area runs v
 
 -- ---- what stands in the area
@@ -123,7 +124,7 @@ mixing_area : (device : DeviceSeen) (n : ℕ) (book : MapBook) → silences book
 mixing_area device zero book = area-kept book
 mixing_area device (suc n) book = at book.state
   where
-    at : (state : MapState) → silences (record book { state = state }) (map_refilled_in (map_rate_at device book) state (suc n) (record book { state = state })) ≡ false
+    at : (state : RunState) → silences (record book { state = state }) (map_refilled_in (map_rate_at device book) state (suc n) (record book { state = state })) ≡ false
     at Running = area-kept (record book { state = Running })
     at state = area-kept (record book { state = state })
 
@@ -143,25 +144,25 @@ Told kept device pool story event slot old new =
 -- whatever the event, once the bytes and the area are known
 stands_from : {B : Type 0} (kept : B → Kept) (device : DeviceSeen) (pool : Pool) (story : Story) (event : Event) (slot : ℕ) (new : MapChannelOf B) (more : List ℕ)
     → map_at device (told device pool story event).desk slot ≡ new.book
-    → MapStands kept (filters_of device) new new.book (take (taken_of new.book) (map_bytes_counted device story slot ++ more))
+    → MapStands kept (device_filters device) new new.book (take (taken_of new.book) (map_bytes_counted device story slot ++ more))
     → map_bytes_counted device (told device pool story event) slot ≡ take (taken_of (map_at device (told device pool story event).desk slot)) (map_bytes_counted device story slot ++ more)
     → area_of new ≡ (told device pool story event).areas slot → MapSlotStands kept device (told device pool story event) slot new
 stands_from kept device pool story event slot new more is stands bytes area = record {
-  stands = subst (MapStands kept (filters_of device) new (map_at device (told device pool story event).desk slot)) (sym bytes)
-      (subst (λ (b : MapBook). MapStands kept (filters_of device) new b (take (taken_of b) (map_bytes_counted device story slot ++ more))) (sym is) stands);
+  stands = subst (MapStands kept (device_filters device) new (map_at device (told device pool story event).desk slot)) (sym bytes)
+      (subst (λ (b : MapBook). MapStands kept (device_filters device) new b (take (taken_of b) (map_bytes_counted device story slot ++ more))) (sym is) stands);
   area = area;
 }
 
 -- an event that mixes nothing
 stands_kept : {B : Type 0} (kind : B → Kind) (kept : B → Kept) (device : DeviceSeen) (pool : Pool) (story : Story) (event : Event) (slot : ℕ) (old new : MapChannelOf B) → Fits device pool event → frames_taken event ≡ 0 → StoryIsValid device story
     → (told device pool story event).map_runs slot ≡ map_marking story.desk.mixed (map_at device story.desk slot) (map_at device (told device pool story event).desk slot) (story.map_runs slot)
-    → MapKeeps kind kept (filters_of device) (written_by pool story.desk event slot) old new → Told kept device pool story event slot old new
+    → MapKeeps kind kept (device_filters device) (written_by pool story.desk event slot) old new → Told kept device pool story event slot old new
 stands_kept kind kept device pool story event slot old new fits none v runs moves = λ was is stood.
     let before : MapBook = map_at device story.desk slot in
     let now : MapBook = map_at device (told device pool story event).desk slot in
     let bytes : List ℕ = map_bytes_counted device story slot in
     stands_from kept device pool story event slot new [] is
-    (moves.moves.stands bytes (subst (λ (b : MapBook). MapStands kept (filters_of device) old b bytes) was stood.stands))
+    (moves.moves.stands bytes (subst (λ (b : MapBook). MapStands kept (device_filters device) old b bytes) was stood.stands))
     (ap (λ (all : List Run). take (taken_of now) (newest_bytes all)) runs ∙ taken-marked device story.desk.mixed before now (story.map_runs slot) (keeps-maps device pool story.desk event fits none slot) (v.maps slot))
     (moves.area
     ∙ ap (λ (b : MapBook). cond (silences b new.book) (silent_area new.book.opening) (written_by pool story.desk event slot (area_of old))) (sym was)
@@ -187,7 +188,7 @@ stands_played kind kept plain filters pool story n slot old new v own plays = λ
     stands_from kept device pool story (Intr n) slot new more is
     (subst (λ (all : List ℕ). MapStands kept filters new new.book (take (taken_of new.book) (bytes ++ all))) taken
     (plays.moves.stands bytes (subst (λ (b : MapBook). MapStands kept filters old b bytes) was stood.stands)))
-    (ap (λ (all : List Run). take (taken_of now) (newest_bytes all)) (map_marking-same story.desk.mixed before now runs (ap (λ (b : MapBook). is_map_running b.state) passed ∙ map_mixing-runs device q before))
+    (ap (λ (all : List Run). take (taken_of now) (newest_bytes all)) (map_marking-same story.desk.mixed before now runs (ap (λ (b : MapBook). is_running b.state) passed ∙ map_mixing-runs device q before))
     ∙ ap (λ (b : MapBook). take (taken_of b) (newest_bytes runs)) passed
     ∙ taken-played device story.desk.mixed q before (story.areas slot) (story.map_runs slot) (v.maps slot)
     ∙ ap (λ (b : MapBook). take (taken_of b) (bytes ++ more)) (sym passed))
@@ -206,29 +207,29 @@ map-told kind kept plain filters pool story event before now slot other fits v o
 
 -- each mapped channel stands for its book, the bytes that were taken in its slot, and its area
 pub all-map : {B : Type 0} (kept : B → Kept) (device : DeviceSeen) (story : Story) (maps : List (MapChannelOf B)) → story.desk.mapped ≡ map_books_of maps
-    → ((slot : ℕ) (other : MapChannelOf B) → slot < length maps → MapSlotStands kept device story slot (get_or maps slot other)) → AllMapStand kept (filters_of device) maps (map_bytes_counted device story) story.areas
+    → ((slot : ℕ) (other : MapChannelOf B) → slot < length maps → MapSlotStands kept device story slot (get_or maps slot other)) → AllMapStand kept (device_filters device) maps (map_bytes_counted device story) story.areas
 all-map kept device story maps mapped s = λ slot other there.
     let stood = s slot other there in
     record {
-      stands = subst (λ (b : MapBook). MapStands kept (filters_of device) (get_or maps slot other) b (map_bytes_counted device story slot)) (map_at-books device story.desk maps slot other mapped there) stood.stands;
+      stands = subst (λ (b : MapBook). MapStands kept (device_filters device) (get_or maps slot other) b (map_bytes_counted device story slot)) (map_at-books device story.desk maps slot other mapped there) stood.stands;
       area = stood.area;
     }
 
 -- ---- what a call leaves of mapped channels
 
 -- one of an opening that is asked something
-pub keeps-asked : {B : Type 0} (kind : B → Kind) (kept : B → Kept) (filters : Filters) (slot : ℕ) (old new : MapChannelOf B) → is_map_free old.book.state ≡ false → RecutsArea old new → MapMoves kind kept filters [] 0 old new
+pub keeps-asked : {B : Type 0} (kind : B → Kind) (kept : B → Kept) (filters : Filters) (slot : ℕ) (old new : MapChannelOf B) → is_unheld old.book.state ≡ false → RecutsArea old new → MapMoves kind kept filters [] 0 old new
     → MapKeeps kind kept filters (untouched slot) old new
 keeps-asked kind kept filters slot old new held recuts moves = record {
   moves = moves;
-  area = recuts ∙ sym (ap (λ (b : Bool). cond (b && not (is_map_free new.book.state) || is_recut old.book.opening new.book.opening) (silent_area new.book.opening) (area_of old)) held);
+  area = recuts ∙ sym (ap (λ (b : Bool). cond (b && not (is_unheld new.book.state) || is_recut old.book.opening new.book.opening) (silent_area new.book.opening) (area_of old)) held);
 }
 
 -- one that is closed
 closed_area : (book : MapBook) → silences book (map_closed book) ≡ false
 closed_area book =
-    let same = (or_parts (is_map_free book.state && not (is_map_free book.state)) (is_recut book.opening book.opening) (area-kept book)).1 in
-    ap (λ (b : Bool). is_map_free book.state && false || b) same ∙ never (is_map_free book.state)
+    let same = (or_parts (is_unheld book.state && not (is_unheld book.state)) (is_recut book.opening book.opening) (area-kept book)).1 in
+    ap (λ (b : Bool). is_unheld book.state && false || b) same ∙ never (is_unheld book.state)
   where
     never : (b : Bool) → b && false || false ≡ false
     never true = refl

@@ -15,7 +15,7 @@ use Rattle.pcm_format.proofs.Streams.{channels_of-above}
 use Rattle.pcm_feeder.specs.Streams.{HaveChannels, interleaved}
 use Rattle.pcm_feeder.proofs.Frames.{frames_of-interleaved}
 use Rattle.pcm_plan.specs.Through.{recs}
-use Rattle.pcm_desk.specs.Device.{DeviceSeen, device_frame_bytes, device_settings, filters_of, full_frame, mix_settings, mixed_for, parent_plan, ring_frames}
+use Rattle.pcm_desk.specs.Device.{DeviceSeen, device_frame_bytes, device_settings, device_filters, full_frame, mix_settings, mixed_for, parent_plan, ring_frames}
 use Rattle.pcm_desk.specs.Channels.{mixed_by}
 use Rattle.pcm_desk.proofs.Ratios.{mixed-behind}
 use Rattle.pcm_sound.specs.Story.{Story, told}
@@ -89,7 +89,7 @@ mixed-kept device pool story event v same =
 pub ring-on : (device : DeviceSeen) (pool : Pool) (story : Story) (n : ℕ) (ring : List ℕ) → StoryIsValid device story
     → n ≤ ring_frames device
     → ring ≡ drop (story.desk.handed * device_frame_bytes device) (device_bytes device story)
-    → turned_ring (device_settings device) n (interleaved (recs (parent_plan device) (filters_of device)
+    → turned_ring (device_settings device) n (interleaved (recs (parent_plan device) (device_filters device)
     (story_frames device (told device pool story (Intr n)) (story.desk.handed + n)) story.desk.handed n)) ring
     ≡ drop ((story.desk.handed + n) * device_frame_bytes device) (device_bytes device (told device pool story (Intr n)))
 ring-on device pool story n ring v few is =

@@ -1,9 +1,9 @@
 -- An opening of whichever way: which slot it takes, and what becomes of the desk.
 use Rattle.std.proofs.Common.{◌≡◌, ℕ, ◌≤◌, List, [], Option, Some, None, Result, Ok, length, refl, sym, ap, ◌∙◌}
 use Rattle.std.proofs.lemmas.List.{length-map}
-use Rattle.pcm_fixed.specs.declared.fixed.Fixed.{Fixed}
-use Rattle.pcm_fixed.specs.Fixed.{fixed_items}
-use Rattle.pcm_fixed.proofs.Items.{items-count}
+use Rattle.pcm_sequence.specs.declared.fixed.Fixed.{Fixed}
+use Rattle.pcm_sequence.specs.Fixed.{fixed_items}
+use Rattle.pcm_sequence.proofs.Items.{items-count}
 use Rattle.pcm_format.specs.declared.settings.Settings.{Settings}
 use Rattle.pcm_feeder.specs.declared.kind.Kind.{Kind}
 use Rattle.pcm_feeder.specs.Filters.{Filters}

@@ -27,15 +27,13 @@ use Rattle.pcm_group.proofs.Members.{get_or-change_in, length-change_in, used-so
 use Rattle.pcm_desk.specs.declared.device.Held.{Held}
 use Rattle.pcm_desk.specs.declared.here.Here.{Here}
 use Rattle.pcm_desk.specs.declared.map_book.MapBook.{MapBook}
-use Rattle.pcm_desk.specs.declared.map_book.MapState.{MapState}
-use Rattle.pcm_desk.specs.declared.map_book.MapState.TheVariants as map_states
+use Rattle.pcm_desk.specs.declared.run_state.RunState.{RunState}
+use Rattle.pcm_desk.specs.declared.run_state.RunState.TheVariants as run_states
 use Rattle.pcm_desk.specs.declared.opening.Opening.{Opening}
 use Rattle.pcm_desk.specs.declared.play_book.PlayBook.{PlayBook}
 use Rattle.pcm_desk.specs.declared.play_book.PlayState.{PlayState}
 use Rattle.pcm_desk.specs.declared.play_book.PlayState.TheVariants.{Free, Setup, Primed, Running, Draining}
 use Rattle.pcm_desk.specs.declared.record_book.RecordBook.{RecordBook}
-use Rattle.pcm_desk.specs.declared.record_book.RecordState.{RecordState}
-use Rattle.pcm_desk.specs.declared.record_book.RecordState.TheVariants as record_states
 use Rattle.pcm_desk.specs.declared.turn.Turn.{Turn}
 use Rattle.pcm_desk.specs.Device.{DeviceSeen, IsDevice, mix_settings, mixed_for, passed_for, play_plan_between}
 use Rattle.pcm_desk.specs.BookTurns.{doing, refused, telling}
@@ -43,7 +41,8 @@ use Rattle.pcm_desk.specs.Openings.{fragment_bytes, ring_bytes}
 use Rattle.pcm_desk.specs.PlayBooks.{accepting, close_turn, closed_in, drained_in, finished, frames_written, giving, is_over, play_dropped, play_emptied, play_fill_of, play_free_of, play_settled, refilled_in, started_at, started_in, takes_none, write_turn}
 use Rattle.pcm_desk.specs.PlayRequests.{play_ask, play_roused_in, play_stopped_in, play_with_trigger}
 use Rattle.pcm_desk.specs.RecordBooks as records
-use Rattle.pcm_desk.specs.RecordBooks.{captured_in, is_running, record_fill_of}
+use Rattle.pcm_desk.specs.RunStates.{is_running}
+use Rattle.pcm_desk.specs.RecordBooks.{captured_in, record_fill_of}
 use Rattle.pcm_desk.specs.RecordRequests.{record_ask}
 use Rattle.pcm_desk.specs.RecordSafe.{RecordIsSafe}
 use Rattle.pcm_desk.specs.MapBooks.{map_refilled_in, poke_turn}
@@ -247,9 +246,9 @@ read_pace length handed book p =
     either (λ turn. RecordKeepsPace handed turn.book) (nat_lt 0 length && eqb (record_fill_of book) 0) (refused Again book) read p
     (record_paced handed book (record book { read = book.read + got }) (omega arith) (omega arith) p)
 
-captured_at : (state : RecordState) (device : DeviceSeen) (handed n : ℕ) (book : RecordBook) → book.state ≡ state → 0 < n → RecordIsSafe (record_rate_at device book) book → RecordKeepsPace handed book
+captured_at : (state : RunState) (device : DeviceSeen) (handed n : ℕ) (book : RecordBook) → book.state ≡ state → 0 < n → RecordIsSafe (record_rate_at device book) book → RecordKeepsPace handed book
     → RecordKeepsPace (handed + n) (captured_in (record_rate_at device book) state n book)
-captured_at record_states.Running device handed n book e some s p =
+captured_at run_states.Running device handed n book e some s p =
     let more = kept-most device n book (ap is_running e) s in
     record { captured = (let before = p.captured in omega (arith, before)); kept = (let before = p.kept in omega (arith, before, more, some)) }
 captured_at state device handed n book e some s p = record { captured = (let before = p.captured in omega (arith, before)); kept = (let before = p.kept in omega (arith, before)) }
@@ -269,8 +268,8 @@ map_ask_pace rate request mixed book s p =
 poke_pace : (offset count mixed : ℕ) (book : MapBook) → MapKeepsPace mixed book → MapKeepsPace mixed (poke_turn offset count book).book
 poke_pace offset count mixed book p = either (λ (turn : Turn MapBook). MapKeepsPace mixed turn.book) (nat_lt (ring_bytes book.opening) (offset + count)) (refused Inval book) (doing book) p p
 
-map_refilled_at : (state : MapState) (rate : Rate) (mixed n : ℕ) (book : MapBook) → MapKeepsPace mixed book → MapKeepsPace (mixed + n) (map_refilled_in rate state n book)
-map_refilled_at map_states.Running rate mixed n book p = record { given = (let before = p.given in omega (arith, before)) }
+map_refilled_at : (state : RunState) (rate : Rate) (mixed n : ℕ) (book : MapBook) → MapKeepsPace mixed book → MapKeepsPace (mixed + n) (map_refilled_in rate state n book)
+map_refilled_at run_states.Running rate mixed n book p = record { given = (let before = p.given in omega (arith, before)) }
 map_refilled_at state rate mixed n book p = record { given = (let before = p.given in omega (arith, before)) }
 
 map_mixing_pace : (device : DeviceSeen) (mixed n : ℕ) (book : MapBook) → MapKeepsPace mixed book → MapKeepsPace (mixed + n) (map_mixing device n book)

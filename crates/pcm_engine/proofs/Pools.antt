@@ -6,7 +6,7 @@ use Rattle.pcm_oss.specs.declared.event.Event.{Event}
 use Rattle.pcm_wave.specs.declared.pool.Pool.{Pool}
 use Rattle.pcm_wave.specs.Pools.{capture_frames, silent_frame}
 use Rattle.pcm_feeder.specs.Kept.{Kept}
-use Rattle.pcm_desk.specs.Device.{DeviceSeen, device_settings, filters_of}
+use Rattle.pcm_desk.specs.Device.{DeviceSeen, device_settings, device_filters}
 use Rattle.pcm_desk.specs.Desk.{record_at}
 use Rattle.pcm_sound.specs.Pools.{AreAlike}
 use Rattle.pcm_sound.specs.Story.{Story, story_of}
@@ -23,7 +23,7 @@ recorders_alike : {B : Type 0} (kept : B → Kept) (device : DeviceSeen) (one ot
     → RecordersStand kept device one recorders story → RecordersStand kept device other recorders story
 recorders_alike {B} kept device one other recorders story captured s = record {
   slots = λ slot channel there.
-      subst (λ (frames : List Frame). RecordStands kept (filters_of device) (get_or recorders slot channel) (record_at device story.desk slot) (bytes_kept device story slot)
+      subst (λ (frames : List Frame). RecordStands kept (device_filters device) (get_or recorders slot channel) (record_at device story.desk slot) (bytes_kept device story slot)
       (map (λ (k : ℕ). get_or frames k (silent_frame (device_settings device).layout)) (range_with_len (story.recordings slot).start (record_at device story.desk slot).captured))) (sym captured)
       (s.slots slot channel there);
   valid = recordings-alike device one other story captured s.valid;

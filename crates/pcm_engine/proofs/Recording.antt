@@ -23,8 +23,9 @@ use Rattle.pcm_feeder.proofs.Frames.{frames_of-interleaved}
 use Rattle.pcm_desk.specs.declared.device.Device.{Device}
 use Rattle.pcm_desk.specs.declared.device.Held.{Held}
 use Rattle.pcm_desk.specs.declared.record_book.RecordBook.{RecordBook}
-use Rattle.pcm_desk.specs.Device.{DeviceSeen, IsDevice, device_settings, filters_of, seen}
-use Rattle.pcm_desk.specs.RecordBooks.{is_running, keeping, record_fill_of}
+use Rattle.pcm_desk.specs.Device.{DeviceSeen, IsDevice, device_settings, device_filters, seen}
+use Rattle.pcm_desk.specs.RunStates.{is_running}
+use Rattle.pcm_desk.specs.RecordBooks.{keeping, record_fill_of}
 use Rattle.pcm_desk.specs.Channels.{by_way, capturing, record_rate_at}
 use Rattle.pcm_desk.specs.Desk.{Desk, after, held_by, map_at, play_at, record_at, record_unopened}
 use Rattle.pcm_desk.specs.Events.{Fits, frames_taken}
@@ -59,16 +60,16 @@ record_at-books {B = B} device desk recorders slot other recording there =
     ap (λ (books : List RecordBook). get_or books slot (record_unopened device)) recording ∙ get_or-map (λ (c : RecordChannelOf B). c.book) recorders slot other (record_unopened device) there
 
 -- a channel of the device stands, once it moved and captured nothing, for the first of what it stood for
-stands-less : {B : Type 0} (kind : B → Kind) (kept : B → Kept) (device : DeviceSeen) (old new : RecordChannelOf B) (bytes : List ℕ) (frames : List Frame) → RecordMoves kind kept (filters_of device) [] 0 old new
-    → RecordStands kept (filters_of device) old old.book bytes frames → RecordStands kept (filters_of device) new new.book (take new.book.kept bytes) (take new.book.captured frames)
+stands-less : {B : Type 0} (kind : B → Kind) (kept : B → Kept) (device : DeviceSeen) (old new : RecordChannelOf B) (bytes : List ℕ) (frames : List Frame) → RecordMoves kind kept (device_filters device) [] 0 old new
+    → RecordStands kept (device_filters device) old old.book bytes frames → RecordStands kept (device_filters device) new new.book (take new.book.kept bytes) (take new.book.captured frames)
 stands-less kind kept device old new bytes frames m s =
     let stood = m.stands bytes frames s in
-    subst (λ (b : List ℕ). RecordStands kept (filters_of device) new new.book (take new.book.kept b) (take new.book.captured frames)) (append-nil bytes)
-    (subst (λ (f : List Frame). RecordStands kept (filters_of device) new new.book (take new.book.kept (bytes ++ [])) (take new.book.captured f)) (append-nil frames) stood)
+    subst (λ (b : List ℕ). RecordStands kept (device_filters device) new new.book (take new.book.kept b) (take new.book.captured frames)) (append-nil bytes)
+    (subst (λ (f : List Frame). RecordStands kept (device_filters device) new new.book (take new.book.kept (bytes ++ [])) (take new.book.captured f)) (append-nil frames) stood)
 
 -- a channel stands for its slot of a story
 abbrev StandsAt : {B : Type 0} → (B → Kept) → DeviceSeen → Pool → Story → ℕ → RecordChannelOf B → Type 0
-StandsAt kept device pool story slot channel = RecordStands kept (filters_of device) channel (record_at device story.desk slot) (bytes_kept device story slot) (frames_captured device pool story slot)
+StandsAt kept device pool story slot channel = RecordStands kept (device_filters device) channel (record_at device story.desk slot) (bytes_kept device story slot) (frames_captured device pool story slot)
 
 -- what an event leaves of a channel stands for its slot of the story after that event
 abbrev Told : {B : Type 0} → (B → Kept) → DeviceSeen → Pool → Story → Event → ℕ → RecordChannelOf B → RecordChannelOf B → Type 0
@@ -78,38 +79,38 @@ Told kept device pool story event slot old new =
 
 -- an event that takes no frames
 still : {B : Type 0} (kind : B → Kind) (kept : B → Kept) (device : DeviceSeen) (pool : Pool) (story : Story) (event : Event) (slot : ℕ) (old new : RecordChannelOf B) → Fits device pool event → frames_taken event ≡ 0
-    → RecordingsAreValid device pool story → RecordMoves kind kept (filters_of device) [] 0 old new → Told kept device pool story event slot old new
+    → RecordingsAreValid device pool story → RecordMoves kind kept (device_filters device) [] 0 old new → Told kept device pool story event slot old new
 still {B} kind kept device pool story event slot old new fits none v m = λ was is stood.
-    let Stands : RecordBook → List ℕ → List Frame → Type 0 = RecordStands kept (filters_of device) new in
+    let Stands : RecordBook → List ℕ → List Frame → Type 0 = RecordStands kept (device_filters device) new in
     let bytes : List ℕ = bytes_kept device story slot in
     let frames : List Frame = frames_captured device pool story slot in
     let now : RecordBook = record_at device (told device pool story event).desk slot in
-    let stands = stands-less kind kept device old new bytes frames m (subst (λ (b : RecordBook). RecordStands kept (filters_of device) old b bytes frames) was stood) in
+    let stands = stands-less kind kept device old new bytes frames m (subst (λ (b : RecordBook). RecordStands kept (device_filters device) old b bytes frames) was stood) in
     let stands_now : Stands now (take now.kept bytes) (take now.captured frames) = subst (λ (b : RecordBook). Stands b (take b.kept bytes) (take b.captured frames)) (sym is) stands in
     let f = recording-follows device pool story event slot fits none v in
     subst (λ (b : List ℕ). Stands now b (frames_captured device pool (told device pool story event) slot)) (sym f.bytes) (subst (Stands now (take now.kept bytes)) (sym f.frames) stands_now)
 
 -- a channel that captured frames of its device stands for these too, and for what it kept of them
 stands-captured : {B : Type 0} (kind : B → Kind) (kept : B → Kept) (device : DeviceSeen) (n : ℕ) (more : List Frame) (before now : RecordChannelOf B) (old new : RecordBook) (bytes : List ℕ) (frames : List Frame)
-    → seen (filters_of device) before.path.device ≡ device → frames_of (channels_of (device_settings device).layout) (interleaved more) ≡ more → old ≡ before.book → now.book ≡ new
-    → RecordMoves kind kept (filters_of device) (frames_of (channels_of (device_settings device).layout) (interleaved more)) (keeping (record_rate_at device before.book) n before.book) before now
-    → RecordStands kept (filters_of device) before old bytes frames
-    → RecordStands kept (filters_of device) now new (take new.kept (bytes ++ recorded_bytes device old.opening.settings (frames ++ more) old.given (keeping (record_rate_at device old) n old))) (take new.captured (frames ++ more))
+    → seen (device_filters device) before.path.device ≡ device → frames_of (channels_of (device_settings device).layout) (interleaved more) ≡ more → old ≡ before.book → now.book ≡ new
+    → RecordMoves kind kept (device_filters device) (frames_of (channels_of (device_settings device).layout) (interleaved more)) (keeping (record_rate_at device before.book) n before.book) before now
+    → RecordStands kept (device_filters device) before old bytes frames
+    → RecordStands kept (device_filters device) now new (take new.kept (bytes ++ recorded_bytes device old.opening.settings (frames ++ more) old.given (keeping (record_rate_at device old) n old))) (take new.captured (frames ++ more))
 stands-captured kind kept device n more before now old new bytes frames device_is input old_is new_is m s =
     let k : ℕ = keeping (record_rate_at device before.book) n before.book in
-    let stood = subst (λ (b : RecordBook). RecordStands kept (filters_of device) before b bytes frames) old_is s in
+    let stood = subst (λ (b : RecordBook). RecordStands kept (device_filters device) before b bytes frames) old_is s in
     let stands = m.stands bytes frames stood in
-    let with_input = subst (λ (x : List Frame). RecordStands kept (filters_of device) now now.book (take now.book.kept (bytes ++ recorded_bytes (seen (filters_of device) before.path.device) before.book.opening.settings (frames ++ x) before.book.given k)) (take now.book.captured (frames ++ x))) input stands in
-    let on_device = subst (λ (v : DeviceSeen). RecordStands kept (filters_of device) now now.book (take now.book.kept (bytes ++ recorded_bytes v before.book.opening.settings (frames ++ more) before.book.given k)) (take now.book.captured (frames ++ more))) device_is with_input in
-    let of_book = subst (λ (b : RecordBook). RecordStands kept (filters_of device) now now.book (take now.book.kept (bytes ++ recorded_bytes device b.opening.settings (frames ++ more) b.given (keeping (record_rate_at device b) n b))) (take now.book.captured (frames ++ more))) (sym old_is) on_device in
-    subst (λ (b : RecordBook). RecordStands kept (filters_of device) now b (take b.kept (bytes ++ recorded_bytes device old.opening.settings (frames ++ more) old.given (keeping (record_rate_at device old) n old))) (take b.captured (frames ++ more))) new_is of_book
+    let with_input = subst (λ (x : List Frame). RecordStands kept (device_filters device) now now.book (take now.book.kept (bytes ++ recorded_bytes (seen (device_filters device) before.path.device) before.book.opening.settings (frames ++ x) before.book.given k)) (take now.book.captured (frames ++ x))) input stands in
+    let on_device = subst (λ (v : DeviceSeen). RecordStands kept (device_filters device) now now.book (take now.book.kept (bytes ++ recorded_bytes v before.book.opening.settings (frames ++ more) before.book.given k)) (take now.book.captured (frames ++ more))) device_is with_input in
+    let of_book = subst (λ (b : RecordBook). RecordStands kept (device_filters device) now now.book (take now.book.kept (bytes ++ recorded_bytes device b.opening.settings (frames ++ more) b.given (keeping (record_rate_at device b) n b))) (take now.book.captured (frames ++ more))) (sym old_is) on_device in
+    subst (λ (b : RecordBook). RecordStands kept (device_filters device) now b (take b.kept (bytes ++ recorded_bytes device old.opening.settings (frames ++ more) old.given (keeping (record_rate_at device old) n old))) (take b.captured (frames ++ more))) new_is of_book
 
 -- an interrupt
 heard : {B : Type 0} (kind : B → Kind) (kept : B → Kept) (device : DeviceSeen) (pool : Pool) (story : Story) (n slot : ℕ) (old new : RecordChannelOf B) → IsDevice device → IsCaptureIn (device_settings device).layout pool
-    → seen (filters_of device) old.path.device ≡ device → RecordingsAreValid device pool story
+    → seen (device_filters device) old.path.device ≡ device → RecordingsAreValid device pool story
     → Captures kind kept device n (interleaved (captured_frames (device_settings device).layout pool story.desk.handed n)) old new → Told kept device pool story (Intr n) slot old new
 heard {B} kind kept device pool story n slot old new d captures device_is v c = λ was is stood.
-    let Stands : RecordBook → List ℕ → List Frame → Type 0 = RecordStands kept (filters_of device) new in
+    let Stands : RecordBook → List ℕ → List Frame → Type 0 = RecordStands kept (device_filters device) new in
     let layout : Layout = (device_settings device).layout in
     let more : List Frame = captured_frames layout pool story.desk.handed n in
     let before : RecordBook = record_at device story.desk slot in
@@ -127,7 +128,7 @@ heard {B} kind kept device pool story n slot old new d captures device_is v c = 
 
 -- each event
 recorder_told : {B : Type 0} (kind : B → Kind) (kept : B → Kept) (device : DeviceSeen) (pool : Pool) (story : Story) (event : Event) (before now : List (RecordChannelOf B)) (slot : ℕ) (other : RecordChannelOf B)
-    → IsDevice device → IsCaptureIn (device_settings device).layout pool → Fits device pool event → seen (filters_of device) (get_or before slot other).path.device ≡ device → slot < length before → RecordingsAreValid device pool story
+    → IsDevice device → IsCaptureIn (device_settings device).layout pool → Fits device pool event → seen (device_filters device) (get_or before slot other).path.device ≡ device → slot < length before → RecordingsAreValid device pool story
     → RecordersMove kind kept device (samples_brought (device_settings device).layout pool story.desk.handed event) event before now → Told kept device pool story event slot (get_or before slot other) (get_or now slot other)
 recorder_told kind kept device pool story (Intr n) before now slot other d captures fits own there v moves = heard kind kept device pool story n slot (get_or before slot other) (get_or now slot other) d captures own v (moves slot other there)
 recorder_told kind kept device pool story event before now slot other d captures fits own there v moves = still kind kept device pool story event slot (get_or before slot other) (get_or now slot other) fits refl v (moves slot other there)
@@ -156,22 +157,22 @@ recorders-told kind kept filters pool story event bytes old before new left repl
 
 -- channels that were ready are ready after an event
 pub recorders-ready : {B : Type 0} (kind : B → Kind) (kept : B → Kept) (device : DeviceSeen) (samples : List ℤ) (event : Event) (before now : List (RecordChannelOf B)) → length now ≡ length before
-    → RecordersMove kind kept device samples event before now → All (IsRecordReady kind kept (filters_of device)) before → All (IsRecordReady kind kept (filters_of device)) now
+    → RecordersMove kind kept device samples event before now → All (IsRecordReady kind kept (device_filters device)) before → All (IsRecordReady kind kept (device_filters device)) now
 recorders-ready {B = B} kind kept device samples event before now same moves ready = at event moves
   where
-    plain : Each (RecordMoves kind kept (filters_of device) [] 0) before now → All (IsRecordReady kind kept (filters_of device)) now
-    plain each = λ slot other within. record-ready-moved kind kept (filters_of device) [] 0 (get_or before slot other) (get_or now slot other) (each slot other (omega arith)) (ready slot other (omega arith))
+    plain : Each (RecordMoves kind kept (device_filters device) [] 0) before now → All (IsRecordReady kind kept (device_filters device)) now
+    plain each = λ slot other within. record-ready-moved kind kept (device_filters device) [] 0 (get_or before slot other) (get_or now slot other) (each slot other (omega arith)) (ready slot other (omega arith))
 
-    at : (e : Event) → RecordersMove kind kept device samples e before now → All (IsRecordReady kind kept (filters_of device)) now
+    at : (e : Event) → RecordersMove kind kept device samples e before now → All (IsRecordReady kind kept (device_filters device)) now
     at (Intr n) each = λ slot other within.
-        record-ready-moved kind kept (filters_of device) _ _ (get_or before slot other) (get_or now slot other) (each slot other (omega arith)).moves (ready slot other (omega arith))
+        record-ready-moved kind kept (device_filters device) _ _ (get_or before slot other) (get_or now slot other) (each slot other (omega arith)).moves (ready slot other (omega arith))
     at event each = plain each
 
 -- each channel stands for its book, its bytes and its frames
 pub all-record : {B : Type 0} (kept : B → Kept) (device : DeviceSeen) (pool : Pool) (story : Story) (recorders : List (RecordChannelOf B)) → story.desk.recording ≡ record_books_of recorders → RecordersStand kept device pool recorders story
-    → AllRecordStand kept (filters_of device) recorders (bytes_kept device story) (frames_captured device pool story)
+    → AllRecordStand kept (device_filters device) recorders (bytes_kept device story) (frames_captured device pool story)
 all-record kept device pool story recorders are s = λ slot other there.
-    subst (λ (b : RecordBook). RecordStands kept (filters_of device) (get_or recorders slot other) b (bytes_kept device story slot) (frames_captured device pool story slot)) (record_at-books device story.desk recorders slot other are there) (s.slots slot other there)
+    subst (λ (b : RecordBook). RecordStands kept (device_filters device) (get_or recorders slot other) b (bytes_kept device story slot) (frames_captured device pool story slot)) (record_at-books device story.desk recorders slot other are there) (s.slots slot other there)
 
 -- the bytes that a book counts are all that a read may get
 read_counted : (device : DeviceSeen) (pool : Pool) (handed count : ℕ) (running : Bool) (book : RecordBook) (recording : Recording) → is_running book.state ≡ running → RecordingIsValid device pool handed book recording

@@ -9,11 +9,11 @@ use Rattle.pcm_wave.specs.declared.pool.Pool.{Pool}
 use Rattle.pcm_feeder.specs.declared.kind.Kind.{Kind}
 use Rattle.pcm_feeder.specs.Kept.{Kept}
 use Rattle.pcm_feeder.specs.Filters.{Filters}
-use Rattle.pcm_mixdev.specs.Fades.{faded}
+use Rattle.pcm_feeder.specs.Fades.{faded}
 use Rattle.pcm_mixdev.specs.Mixers.{Levels, master_gain, slot_gain}
 use Rattle.pcm_desk.specs.declared.map_book.MapBook.{MapBook}
 use Rattle.pcm_desk.specs.declared.play_book.PlayBook.{PlayBook}
-use Rattle.pcm_desk.specs.Device.{DeviceSeen, device_frame_bytes, device_settings, filters_of, mix_settings, parent_plan, ring_frames, seen}
+use Rattle.pcm_desk.specs.Device.{DeviceSeen, device_frame_bytes, device_settings, device_filters, mix_settings, parent_plan, ring_frames, seen}
 use Rattle.pcm_desk.specs.Channels.{mixed_by}
 use Rattle.pcm_desk.specs.Desk.{Desk, after, play_at, play_unopened}
 use Rattle.pcm_desk.specs.Events.{Fits, bytes_handed, frames_taken}
@@ -37,7 +37,7 @@ use Rattle.pcm_engine.specs.Steps.{BusMoves, bytes_moved, MapsMove}
 use Rattle.pcm_bus.specs.Blocks.{block_bytes, block_of, map_gains, mapped_onto, turned_ring, Sources}
 use Rattle.pcm_bus.specs.Buses.{mixed_at_once}
 use Rattle.pcm_bus.specs.Handovers.{HasMade, raised_frames}
-use Rattle.pcm_fixed.proofs.Items.{items-count}
+use Rattle.pcm_sequence.proofs.Items.{items-count}
 use Rattle.pcm_oss.specs.Replies.{Reply}
 use Rattle.pcm_vchan.specs.declared.parent.ParentOf.{ParentOf}
 use Rattle.pcm_vchan.specs.Parents.{map_books, map_channels, play_books, play_channels}
@@ -95,9 +95,9 @@ counts_told device pool story event slot fits v more =
 
 -- each channel stands for its book and the bytes that its slot counts
 all_stand : {B : Type 0} (kept : B → Kept) (device : DeviceSeen) (story : Story) (parent : ParentOf B) → story.desk.play ≡ play_books parent → ParentStands kept device story.desk parent story
-    → AllPlayStand kept (filters_of device) (play_channels parent) (bytes_counted device story)
+    → AllPlayStand kept (device_filters device) (play_channels parent) (bytes_counted device story)
 all_stand kept device story parent play s = λ slot other there.
-    subst (λ (b : PlayBook). PlayStands kept (filters_of device) (get_or (play_channels parent) slot other) b (bytes_counted device story slot)) (play_at-books device story.desk (play_channels parent) slot other play there) (s.slots slot other there)
+    subst (λ (b : PlayBook). PlayStands kept (device_filters device) (get_or (play_channels parent) slot other) b (bytes_counted device story slot)) (play_at-books device story.desk (play_channels parent) slot other play there) (s.slots slot other there)
 
 -- ---- the bus, and the device's ring
 
@@ -148,7 +148,7 @@ bus_told kept filters pool story (Intr n) old new fits play mapped moves s =
     ∙ mixed-on device pool story n s.valid in (
       subst (λ (frames : List Frame). HasMade kept device new.bus.chain frames (handed + n)) all turned.made,
       turned.ring
-          ∙ ap (λ (frames : List Frame). turned_ring (device_settings device) n (interleaved (recs (parent_plan device) (filters_of device) frames handed n)) old.ring.bytes) all
+          ∙ ap (λ (frames : List Frame). turned_ring (device_settings device) n (interleaved (recs (parent_plan device) (device_filters device) frames handed n)) old.ring.bytes) all
           ∙ ring-on device pool story n old.ring.bytes s.valid fits.1 s.ring_is,
     )
 bus_told kept filters pool story event old new fits play mapped moves s =

@@ -7,7 +7,7 @@ use Rattle.pcm_format.specs.declared.format.Format.{Format}
 use Rattle.pcm_format.specs.declared.settings.Settings.{Settings}
 use Rattle.pcm_format.specs.Layouts.{channels_of}
 use Rattle.pcm_format.specs.Samples.{spelled}
-use Rattle.pcm_format.specs.Frames.{frame_bytes}
+use Rattle.pcm_format.specs.Frames.{frame_bytes, spelled_frames}
 use Rattle.pcm_feeder.specs.declared.kind.Kind.{Kind}
 use Rattle.pcm_feeder.specs.Filters.{Filters}
 use Rattle.pcm_feeder.specs.Kept.{Kept}
@@ -22,7 +22,6 @@ use Rattle.pcm_desk.specs.MapBooks.{taken_of}
 use Rattle.pcm_desk.specs.Desk.{desk_at_start, map_at, map_unopened, play_at, play_unopened, record_at, record_unopened}
 use Rattle.pcm_sound.specs.Areas.{silent_area}
 use Rattle.pcm_sound.specs.Story.{story_at_start}
-use Rattle.pcm_format.specs.Frames.{spelled_frames}
 use Rattle.pcm_sound.specs.DeviceList.{silence_in}
 use Rattle.pcm_wave.specs.declared.pool.Pool.{Pool}
 use Rattle.pcm_wave.specs.Pools.{captured_frames}

@@ -4,8 +4,8 @@ use Rattle.std.specs.Prelude.{IsOk, is_some, not}
 use Rattle.std.proofs.lemmas.List.{length-map}
 use Rattle.pcm_oss.specs.declared.event.Way.{Way}
 use Rattle.pcm_oss.specs.declared.event.TheConstants.{SLOTS}
-use Rattle.pcm_fixed.specs.Fixed.{fixed_len}
-use Rattle.pcm_fixed.proofs.Items.{items-count}
+use Rattle.pcm_sequence.specs.Fixed.{fixed_len}
+use Rattle.pcm_sequence.proofs.Items.{items-count}
 use Rattle.pcm_oss.specs.declared.event.Way.TheVariants.{Play, Record, Map}
 use Rattle.pcm_oss.specs.declared.reply.Answer.{Answer}
 use Rattle.pcm_oss.specs.declared.reply.Answer.TheVariants.{Number}
@@ -19,7 +19,7 @@ use Rattle.pcm_desk.specs.declared.record_book.RecordBook.{RecordBook}
 use Rattle.pcm_desk.specs.Device.{DeviceSeen}
 use Rattle.pcm_desk.specs.declared.turn.Turn.{Turn}
 use Rattle.pcm_desk.specs.declared.map_book.MapBook.{MapBook}
-use Rattle.pcm_desk.specs.MapBooks.{is_map_free}
+use Rattle.pcm_desk.specs.RunStates.{is_unheld}
 use Rattle.pcm_desk.specs.RecordBooks.{record_fill_of}
 use Rattle.pcm_desk.specs.Channels.{Mapped, Playing, Recording, by_way, may_be_held}
 use Rattle.pcm_desk.specs.Desk.{Desk, DeskTurn, held_by, map_at, map_unopened, open_turn, play_at, play_unopened, record_at, record_unopened, refusing, slot_number, with_descriptor, after, channel_at, channel_turn, least_free, leaving, open_at, opened_at, with_channel_at}
@@ -237,11 +237,11 @@ turn-mapped device turn parent descriptors slot lent new answer there is changed
 
 -- one that a descriptor holds isn't free
 pub map-unfree : {B : Type 0} (device : DeviceSeen) (parent : ParentOf B) (descriptors : Descriptors) (fd : ℕ) (held : Held) (lent : MapChannelOf B) → HoldApart (desk_with parent descriptors) → held_by (desk_with parent descriptors) fd ≡ Some held → held.way ≡ Map
-    → held.slot < length (map_channels parent) → lent ≡ get_or (map_channels parent) held.slot lent → is_map_free lent.book.state ≡ false
+    → held.slot < length (map_channels parent) → lent ≡ get_or (map_channels parent) held.slot lent → is_unheld lent.book.state ≡ false
 map-unfree device parent descriptors fd held lent h e is there lent_is =
     let desk : Desk = desk_with parent descriptors in
-    ap (λ (b : MapBook). is_map_free b.state) (map_at-channel (map_channels parent) held.slot lent (map_unopened device) there lent_is)
-    ∙ not-true (is_map_free (map_at device desk held.slot).state) (ap (λ (w : Way). may_be_held (channel_at device desk (channel_of w held.slot))) (sym is) ∙ h.taken fd held device e)
+    ap (λ (b : MapBook). is_unheld b.state) (map_at-channel (map_channels parent) held.slot lent (map_unopened device) there lent_is)
+    ∙ not-true (is_unheld (map_at device desk held.slot).state) (ap (λ (w : Way). may_be_held (channel_at device desk (channel_of w held.slot))) (sym is) ∙ h.taken fd held device e)
   where
     not-true : (b : Bool) → not b ≡ true → b ≡ false
     not-true true e = cc

@@ -7,7 +7,7 @@ use Rattle.pcm_oss.specs.declared.reply.Errno.{Errno}
 use Rattle.pcm_oss.specs.Replies.{Reply}
 use Rattle.pcm_format.specs.Frames.{Frame}
 use Rattle.pcm_wave.specs.declared.pool.Pool.{Pool}
-use Rattle.pcm_fixed.specs.Fixed.{fixed_items}
+use Rattle.pcm_sequence.specs.Fixed.{fixed_items}
 use Rattle.pcm_feeder.specs.declared.kind.Kind.{Kind}
 use Rattle.pcm_feeder.specs.Kept.{Kept}
 use Rattle.pcm_desk.specs.Device.{DeviceSeen, IsInLimits, device_frame_bytes, ring_frames, seen}

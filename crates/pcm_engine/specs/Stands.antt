@@ -5,7 +5,7 @@ use Rattle.pcm_format.specs.Frames.{Frame}
 use Rattle.pcm_wave.specs.declared.pool.Pool.{Pool}
 use Rattle.pcm_wave.specs.Pools.{captured_frames}
 use Rattle.pcm_chain.specs.declared.chain.ChainOf.{ChainOf}
-use Rattle.pcm_desk.specs.Device.{DeviceSeen, device_frame_bytes, device_settings, filters_of, mixed_for}
+use Rattle.pcm_desk.specs.Device.{DeviceSeen, device_frame_bytes, device_settings, device_filters, mixed_for}
 use Rattle.pcm_desk.specs.MapBooks.{taken_of}
 use Rattle.pcm_desk.specs.Desk.{Desk, map_at, play_at, record_at}
 use Rattle.pcm_sound.specs.Runs.{newest_bytes}
@@ -30,7 +30,7 @@ map_bytes_counted device story slot = take (taken_of (map_at device story.desk s
 
 -- a mapped channel stands for its slot of a story: for the book, the bytes that it has taken, and what stands in the area
 pub record MapSlotStands {B : Type 0} (kept : B → Kept) (device : DeviceSeen) (story : Story) (slot : ℕ) (channel : MapChannelOf B) : Type 0 where
-  pub stands : MapStands kept (filters_of device) channel (map_at device story.desk slot) (map_bytes_counted device story slot)
+  pub stands : MapStands kept (device_filters device) channel (map_at device story.desk slot) (map_bytes_counted device story slot)
   pub area : area_of channel ≡ story.areas slot
 
 -- all frames that a story has mixed, at 32 bits, as many as those need that the device has been given
@@ -43,7 +43,7 @@ story_frames device story handed = mixed_frames device (mix_at device story.fade
 pub record PartsStand {B : Type 0} (kept : B → Kept) (device : DeviceSeen) (desk : Desk) (channels : List (PlayChannelOf B)) (maps : List (MapChannelOf B)) (chain : ChainOf B) (ring : List ℕ) (story : Story) : Type 0 where
   pub desk_is : desk ≡ story.desk
   pub slots : (slot : ℕ) (other : PlayChannelOf B) → slot < length channels
-      → PlayStands kept (filters_of device) (slice_index_or channels slot other) (play_at device story.desk slot) (bytes_counted device story slot)
+      → PlayStands kept (device_filters device) (slice_index_or channels slot other) (play_at device story.desk slot) (bytes_counted device story slot)
   pub mapped : (slot : ℕ) (other : MapChannelOf B) → slot < length maps → MapSlotStands kept device story slot (slice_index_or maps slot other)
   pub bus : HasMade kept device chain (story_frames device story story.desk.handed) story.desk.handed
   pub ring_is : ring ≡ drop (story.desk.handed * device_frame_bytes device) (device_bytes device story)
@@ -61,5 +61,5 @@ frames_captured device pool story slot =
 -- Channels that record stand for a story: each for its slot's book, the bytes that were kept and the frames that were captured.
 pub record RecordersStand {B : Type 0} (kept : B → Kept) (device : DeviceSeen) (pool : Pool) (recorders : List (RecordChannelOf B)) (story : Story) : Type 0 where
   pub slots : (slot : ℕ) (other : RecordChannelOf B) → slot < length recorders
-      → RecordStands kept (filters_of device) (slice_index_or recorders slot other) (record_at device story.desk slot) (bytes_kept device story slot) (frames_captured device pool story slot)
+      → RecordStands kept (device_filters device) (slice_index_or recorders slot other) (record_at device story.desk slot) (bytes_kept device story slot) (frames_captured device pool story slot)
   pub valid : RecordingsAreValid device pool story

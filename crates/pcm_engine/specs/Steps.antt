@@ -8,7 +8,7 @@ use Rattle.pcm_feeder.specs.Kept.{Kept}
 use Rattle.pcm_mixdev.specs.Mixers.{Levels}
 use Rattle.pcm_desk.specs.declared.device.Held.{Held}
 use Rattle.pcm_chain.specs.declared.chain.ChainOf.{ChainOf}
-use Rattle.pcm_desk.specs.Device.{DeviceSeen, filters_of, seen}
+use Rattle.pcm_desk.specs.Device.{DeviceSeen, device_filters, seen}
 use Rattle.pcm_desk.specs.Channels.{Channel, Mapped, Playing, Recording, by_way, mixed_by}
 use Rattle.pcm_desk.specs.Desk.{Desk, channel_at, held_by}
 use Rattle.pcm_desk.specs.declared.device.Device.{Device}
@@ -47,7 +47,7 @@ frames_mixed device handed event = 0
 -- the channels after an event that brings these bytes, where the device had been given `handed` frames before
 abbrev pub ChannelsMove : {B : Type 0} → (B → Kind) → (B → Kept) → DeviceSeen → List ℕ → ℕ → Event → List (PlayChannelOf B) → List (PlayChannelOf B) → Type 0
 ChannelsMove kind kept device bytes handed event old new =
-    Each (PlayMoves kind kept (filters_of device) (bytes_moved bytes event) (frames_mixed device handed event)) old new
+    Each (PlayMoves kind kept (device_filters device) (bytes_moved bytes event) (frames_mixed device handed event)) old new
 
 -- the chain between the mix and the device, and the device's ring, after an event
 abbrev pub BusMoves : {B : Type 0} → (B → Kept) → DeviceSeen → ℕ → Levels → Event → List (PlayChannelOf B) → List (MapChannelOf B) → ChainOf B → ChainOf B → List ℕ → List ℕ → Type 0
@@ -63,7 +63,7 @@ MapsMove kind kept filters device bytes desk event old new = EachAt (λ slot. Ma
 -- the channels that record after an event that brings such samples
 abbrev pub RecordersMove : {B : Type 0} → (B → Kind) → (B → Kept) → DeviceSeen → List ℤ → Event → List (RecordChannelOf B) → List (RecordChannelOf B) → Type 0
 RecordersMove kind kept device samples (Intr n) old new = Each (Captures kind kept device n samples) old new
-RecordersMove kind kept device samples event old new = Each (RecordMoves kind kept (filters_of device) [] 0) old new
+RecordersMove kind kept device samples event old new = Each (RecordMoves kind kept (device_filters device) [] 0) old new
 
 -- the bytes that a read of `count` bytes gets of a channel, from those that were kept of its recording: the oldest that no read got
 abbrev pub channel_read : ℕ → Channel → List ℕ → List ℕ

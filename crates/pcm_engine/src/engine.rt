@@ -1,7 +1,7 @@
 //! The engine and its events.
 
 ghost use Rattle.std.specs.Prelude.{◌≡◌, [], ◌+◌, ◌*◌, ◌≤◌, length, take, drop, IfOk};
-ghost use Rattle.pcm_fixed.specs.Fixed.{fixed_len};
+ghost use Rattle.pcm_sequence.specs.Fixed.{fixed_len};
 ghost use Rattle.pcm_engine.specs.declared.limits.TheConstants.{LIFE};
 ghost use Rattle.pcm_desk.specs.Events.{Fits, bytes_handed, frames_taken};
 ghost use Rattle.pcm_desk.specs.Device.{seen};
@@ -21,8 +21,8 @@ use crate::interrupts::interrupt;
 use crate::mixer_calls::ask_mixer;
 use pcm_desk::Device;
 use pcm_feeder::{Feeder, RacksOf, Tables};
-use pcm_fixed::Fixed;
 use pcm_oss::{Answer, Errno, Event, REPLY_BYTES, ReplyBuf};
+use pcm_sequence::Fixed;
 use pcm_vchan::ParentOf;
 use pcm_wave::Pool;
 use std::alloc::{AllocError, Global};

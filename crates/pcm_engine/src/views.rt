@@ -13,8 +13,7 @@ ghost use Rattle.pcm_desk.specs.Channels.{play_rate_at, record_rate_at};
 ghost use Rattle.pcm_desk.specs.Desk.{desk_here, group_of, held_by, map_at, play_at, record_at, slot_number};
 ghost use Rattle.pcm_desk.specs.Here.{IsHere};
 ghost use Rattle.pcm_desk.specs.PlayBooks.{is_play_free};
-ghost use Rattle.pcm_desk.specs.RecordBooks.{is_record_free};
-ghost use Rattle.pcm_desk.specs.MapBooks.{is_map_free};
+ghost use Rattle.pcm_desk.specs.RunStates.{is_unheld};
 ghost use Rattle.std.specs.List.{list_all};
 ghost use Rattle.pcm_vchan.specs.Parents.{map_channels, play_channels, record_channels};
 ghost use Rattle.pcm_engine.specs.Engines.{AreReady, desk_of, device_of};
@@ -57,7 +56,7 @@ impl<B: Feeder> EngineOf<B> {
     }
 
     fn records_none(&self) -> bool
-        ensures { result ≡ list_all (λ channel. is_record_free channel.book.state) (record_channels self.now.parent) }
+        ensures { result ≡ list_all (λ channel. is_unheld channel.book.state) (record_channels self.now.parent) }
     {
         self.parent
             .recorders
@@ -66,7 +65,7 @@ impl<B: Feeder> EngineOf<B> {
     }
 
     fn maps_none(&self) -> bool
-        ensures { result ≡ list_all (λ channel. is_map_free channel.book.state) (map_channels self.now.parent) }
+        ensures { result ≡ list_all (λ channel. is_unheld channel.book.state) (map_channels self.now.parent) }
     {
         self.parent.maps.iter().all(|channel| channel.is_free())
     }
@@ -127,7 +126,7 @@ impl<B: Feeder> EngineOf<B> {
     pub fn record_rate(&self, slot: usize) -> Rate
         requires ready { AreReady B.kind B.kept self.now }
         requires there { slot < record_slots (device_of self.now) }
-        requires taken { is_record_free (record_at (device_of self.now) (desk_of self.now) slot).state ≡ false }
+        requires taken { is_unheld (record_at (device_of self.now) (desk_of self.now) slot).state ≡ false }
         ensures is { result ≡ record_rate_at (device_of self.now) (record_at (device_of self.now) (desk_of self.now) slot) }
         ensures near { IsNear result }
     {

@@ -4,9 +4,9 @@ use Rattle.pcm_feeder.specs.declared.kind.Kind.{Kind}
 use Rattle.pcm_feeder.specs.Kept.{Kept}
 use Rattle.pcm_engine.specs.declared.engine.EngineOf.{EngineOf}
 use Rattle.pcm_engine.specs.Engines.{AreReady}
-use Rattle.pcm_numbers.specs.declared.device.DeviceNumbers.{DeviceNumbers}
-use Rattle.pcm_numbers.specs.declared.filters.FilterNumbers.{FilterNumbers}
-use Rattle.pcm_numbers.specs.declared.sections.SectionNumbers.{SectionNumbers}
+use Rattle.pcm_foreign.specs.declared.device.DeviceNumbers.{DeviceNumbers}
+use Rattle.pcm_foreign.specs.declared.filters.FilterNumbers.{FilterNumbers}
+use Rattle.pcm_foreign.specs.declared.sections.SectionNumbers.{SectionNumbers}
 use Rattle.pcm_session.specs.declared.session.SessionOf.{SessionOf}
 use Rattle.pcm_session.specs.Calls.{Discards, Interrupts}
 use Rattle.pcm_engine_c.specs.declared.session.Session.{Session}

@@ -7,14 +7,14 @@ use Rattle.pcm_desk.specs.Device.{seen}
 use Rattle.pcm_feeder.specs.Filters.{Filters}
 use Rattle.pcm_engine.specs.declared.engine.EngineOf.{EngineOf}
 use Rattle.pcm_engine.specs.Engines.{Stands, device_of}
-use Rattle.pcm_numbers.specs.declared.device.DeviceNumbers.{DeviceNumbers}
-use Rattle.pcm_numbers.specs.declared.filters.FilterNumbers.{FilterNumbers}
-use Rattle.pcm_numbers.specs.declared.sections.SectionNumbers.{SectionNumbers}
-use Rattle.pcm_numbers.specs.declared.fault.NumbersFault.TheVariants.{Memory, Argument}
-use Rattle.pcm_numbers.specs.declared.call_fault.CallFault.TheVariants.{Engine}
-use Rattle.pcm_numbers.specs.Answers.{call_fault_number, fault_number}
-use Rattle.pcm_numbers.specs.Devices.{device_from}
-use Rattle.pcm_numbers.specs.Tables.{tables_from}
+use Rattle.pcm_foreign.specs.declared.device.DeviceNumbers.{DeviceNumbers}
+use Rattle.pcm_foreign.specs.declared.filters.FilterNumbers.{FilterNumbers}
+use Rattle.pcm_foreign.specs.declared.sections.SectionNumbers.{SectionNumbers}
+use Rattle.pcm_foreign.specs.declared.fault.NumbersFault.TheVariants.{Memory, Argument}
+use Rattle.pcm_foreign.specs.declared.call_fault.CallFault.TheVariants.{Engine}
+use Rattle.pcm_foreign.specs.Answers.{call_fault_number, fault_number}
+use Rattle.pcm_foreign.specs.Devices.{device_from}
+use Rattle.pcm_foreign.specs.Tables.{tables_from}
 use Rattle.pcm_engine_c.specs.declared.session.Session.{Session}
 
 -- An engine is that of these numbers before its first step: of their device, with their filters and sections, and it stands for no events.

@@ -7,9 +7,9 @@ ghost use Rattle.pcm_engine.specs.Engines.{desk_of, device_of};
 ghost use Rattle.pcm_engine.specs.Views.{is_idle};
 ghost use Rattle.pcm_engine_c.specs.Calls.{On};
 ghost use Rattle.pcm_engine_c.specs.Sessions.{IsMade, is_possible};
-ghost use Rattle.pcm_numbers.specs.Answers.{call_fault_number, fault_number};
-ghost use Rattle.pcm_numbers.specs.declared.call_fault.CallFault.TheVariants.{Engine};
-ghost use Rattle.pcm_numbers.specs.declared.fault.NumbersFault.TheVariants.{Memory};
+ghost use Rattle.pcm_foreign.specs.Answers.{call_fault_number, fault_number};
+ghost use Rattle.pcm_foreign.specs.declared.call_fault.CallFault.TheVariants.{Engine};
+ghost use Rattle.pcm_foreign.specs.declared.fault.NumbersFault.TheVariants.{Memory};
 ghost use Rattle.pcm_session.specs.Calls.{Discards, Interrupts, MakesCall, beside, call_number, count_number, done_number, handed_count, handed_number, open_number, read_into};
 ghost use Rattle.pcm_session.specs.Questions.{peek_told, ready_told, told_settings, slot_told};
 ghost use Rattle.pcm_session.specs.Taken.{frames_left, unheard_room};
@@ -22,7 +22,7 @@ mod session;
 use feed_stages::Stage;
 use handle::Handle;
 use pcm_feeder::Feeder;
-use pcm_numbers::{
+use pcm_foreign::{
     AnswerNumbers, DeviceNumbers, FilterNumbers, NOT_AN_ENGINE, SectionNumbers, fault_number,
 };
 use pcm_session::{SettingsNumbers, SlotNumbers};

@@ -3,11 +3,11 @@
 ghost use Rattle.std.specs.Prelude.{◌≡◌, true, false, IfOk, IfErr};
 ghost use Rattle.pcm_engine.specs.Engines.{AreReady};
 ghost use Rattle.pcm_engine_c.specs.Sessions.{IsNew, is_possible};
-ghost use Rattle.pcm_numbers.specs.declared.fault.NumbersFault.TheVariants.{Argument, Memory};
+ghost use Rattle.pcm_foreign.specs.declared.fault.NumbersFault.TheVariants.{Argument, Memory};
 
 use feed_stages::{Stage, stage_racks};
 use pcm_feeder::Feeder;
-use pcm_numbers::{
+use pcm_foreign::{
     DeviceNumbers, FilterNumbers, NumbersFault, SectionNumbers, device_from, tables_from,
 };
 use pcm_session::SessionOf;

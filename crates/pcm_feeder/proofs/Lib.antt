@@ -1,6 +1,10 @@
 pub mod Phases
 pub mod Products
 pub mod Frames
+pub mod AtGains
+pub mod Fading
+pub mod FadedFrames
+pub mod FadedBits
 pub mod Mapped
 pub mod Streams
 pub mod Histories

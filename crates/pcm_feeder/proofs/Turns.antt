@@ -8,14 +8,13 @@ use Rattle.std.proofs.lemmas.List.{length-append, length-take, length-take-le, l
 use Rattle.std.proofs.lemmas.List.Elements.{All-append, All-take, All-map, All-same}
 use Rattle.std.proofs.lemmas.Simd.{length-zip2}
 use Rattle.pcm_num.specs.Floor.{floor_div}
-use Rattle.pcm_format.specs.Samples.{at_depth}
+use Rattle.pcm_format.specs.Samples.{at_depth, natural}
 use Rattle.pcm_format.specs.Layouts.{positions_of, channels_of}
 use Rattle.pcm_feeder.specs.Layouts.{gathered, side_gain, in_layout, at_gain}
 use Rattle.std.proofs.lemmas.List.FromFn.{length-map-range_with_len, fill_by_all}
 use Rattle.pcm_format.proofs.Ranges.{map-range-same, map-range-shift}
 use Rattle.pcm_format.proofs.Streams.{length-positions}
 use Rattle.pcm_format.specs.Frames.{Frame}
-use Rattle.pcm_format.specs.Samples.{natural}
 use Rattle.pcm_feeder.specs.declared.stage.Gain.{Gain}
 use Rattle.pcm_feeder.specs.declared.stage.Spec.{Spec}
 use Rattle.pcm_feeder.specs.declared.stage.Spec.TheVariants.{Matrix, Hold, Linear, Poly, Volume, Depth, Eq}

@@ -4,6 +4,8 @@ pub mod Limits
 pub mod Streams
 pub mod Sums
 pub mod Layouts
+pub mod Gains
+pub mod Fades
 pub mod Sections
 pub mod LastFrames
 pub mod Stages

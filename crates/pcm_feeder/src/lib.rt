@@ -2,7 +2,9 @@
 //! Whichever box a rack has, the frames that it gives are one function of all frames that it has eaten.
 #![tactic(auto)]
 
+mod fade;
 mod feeder;
+mod gains;
 mod history;
 mod kind;
 mod last_frames;
@@ -16,7 +18,9 @@ mod stage;
 mod sums;
 mod table;
 
+pub use fade::apply_gain;
 pub use feeder::Feeder;
+pub use gains::{put_frame, side_gains};
 pub use history::{frame_among, move_on};
 pub use kind::Kind;
 pub use last_frames::LastFrames;

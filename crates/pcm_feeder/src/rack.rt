@@ -37,8 +37,7 @@ pub struct RackOf<B> {
 
 impl<B: Feeder> RackOf<B> {
     ghost use Rattle.std.specs.Prelude.{map};
-    ghost use Rattle.pcm_feeder.specs.Racks.{HaveKinds, IsRack, AreRacks, boxes_of};
-    ghost use Rattle.pcm_feeder.specs.Racks.{IsFirstWrong, IsRackFault, places_of};
+    ghost use Rattle.pcm_feeder.specs.Racks.{HaveKinds, IsRack, AreRacks, boxes_of, IsFirstWrong, IsRackFault, places_of};
 
     /// Checks the boxes in the order of their places. They are dropped where one is refused.
     pub fn new(seven: SevenOf<B>) -> Result<RackOf<B>, WrongKind>

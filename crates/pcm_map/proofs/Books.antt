@@ -20,13 +20,14 @@ use Rattle.pcm_chain.specs.Counts.{IsNear}
 use Rattle.pcm_path.specs.Paths.{path_rate}
 use Rattle.pcm_chain.proofs.Counting.{rate-near}
 use Rattle.pcm_desk.specs.declared.map_book.MapBook.{MapBook}
-use Rattle.pcm_desk.specs.declared.map_book.MapState.{MapState}
-use Rattle.pcm_desk.specs.declared.map_book.MapState.TheVariants.{Free, Setup, Running}
+use Rattle.pcm_desk.specs.declared.run_state.RunState.{RunState}
+use Rattle.pcm_desk.specs.declared.run_state.RunState.TheVariants.{Free, Setup, Running}
 use Rattle.pcm_desk.specs.declared.turn.Turn.{Turn}
 use Rattle.pcm_desk.specs.Device.{DeviceSeen, IsDevice, play_plan_between, seen}
 use Rattle.pcm_desk.specs.BookTurns.{doing, refused}
 use Rattle.pcm_desk.specs.Openings.{ring_bytes}
-use Rattle.pcm_desk.specs.MapBooks.{is_map_free, is_map_running, map_gives, map_refilled, map_refilled_in, poke_turn, taken_of}
+use Rattle.pcm_desk.specs.RunStates.{is_unheld, is_running}
+use Rattle.pcm_desk.specs.MapBooks.{map_gives, map_refilled, map_refilled_in, poke_turn, taken_of}
 use Rattle.pcm_desk.specs.MapSafe.{MapIsSafe}
 use Rattle.pcm_desk.specs.Channels.{map_mixing, map_rate_at}
 use Rattle.pcm_desk.proofs.Ratios.{device-is, plan-between-fits}
@@ -74,16 +75,16 @@ need-few rate given n near few =
 
 -- ---- states
 
-running_gives : (state : MapState) (rate : Rate) (n : ℕ) (book : MapBook) → is_map_running state ≡ true → map_refilled_in rate state n book ≡ map_gives rate n book
+running_gives : (state : RunState) (rate : Rate) (n : ℕ) (book : MapBook) → is_running state ≡ true → map_refilled_in rate state n book ≡ map_gives rate n book
 running_gives Free rate n book e = cc
 running_gives Setup rate n book e = cc
 running_gives Running rate n book e = refl
 
 -- a started book gives all frames of an interrupt
-pub refilled-gives : (rate : Rate) (n : ℕ) (book : MapBook) → is_map_running book.state ≡ true → map_refilled rate n book ≡ map_gives rate n book
+pub refilled-gives : (rate : Rate) (n : ℕ) (book : MapBook) → is_running book.state ≡ true → map_refilled rate n book ≡ map_gives rate n book
 refilled-gives rate n book e = running_gives book.state rate n book e
 
-pub mixing-gives : (device : DeviceSeen) (n : ℕ) (book : MapBook) → 0 < n → is_map_running book.state ≡ true → map_mixing device n book ≡ map_gives (map_rate_at device book) n book
+pub mixing-gives : (device : DeviceSeen) (n : ℕ) (book : MapBook) → 0 < n → is_running book.state ≡ true → map_mixing device n book ≡ map_gives (map_rate_at device book) n book
 mixing-gives device zero book some e = absurd (omega arith)
 mixing-gives device (suc n) book some e = refilled-gives (map_rate_at device book) (suc n) book e
 
@@ -111,7 +112,7 @@ planned-safe filters channel p = subst (λ (rate : Rate). MapIsSafe rate channel
 -- and so a channel's that may be free
 pub safe-served : {B : Type 0} (filters : Filters) (channel : MapChannelOf B) → IsMapServed filters channel → MapIsSafe (map_rate_at (seen filters channel.path.device) channel.book) channel.book
 safe-served filters channel served =
-    elim (cases_Bool (is_map_free channel.book.state)) [
+    elim (cases_Bool (is_unheld channel.book.state)) [
       | inl free ↦ safe-any (path_rate channel.path) (map_rate_at (seen filters channel.path.device) channel.book) channel.book free channel.safe
       | inr used ↦ planned-safe filters channel (served used)
     ]
@@ -136,14 +137,14 @@ taken-fits filters n channel p fits =
     omega (arith, now.taken, ap (λ (k : ℕ). need rate k * z) none, ap (λ (k : ℕ). k * z) taken)
 
 -- the book of a piece, by the rate of the chain's plan
-pub book-given : {B : Type 0} (filters : Filters) (n : ℕ) (old : MapChannelOf B) (new : MapBook) (between : Rate) (plan : PlanSeen) → IsMapPlanned filters old → is_map_running old.book.state ≡ true
+pub book-given : {B : Type 0} (filters : Filters) (n : ℕ) (old : MapChannelOf B) (new : MapBook) (between : Rate) (plan : PlanSeen) → IsMapPlanned filters old → is_running old.book.state ≡ true
     → new ≡ map_refilled between n old.book → between ≡ rate_in_plan plan → plan ≡ plan_in old.path.chain → new ≡ book_giving filters n old
 book-given filters n old new between plan p running made rate_is plan_is =
     made ∙ ap (λ (r : Rate). map_refilled r n old.book) (rate_is ∙ ap (λ (q : PlanSeen). rate_in_plan q) plan_is ∙ planned-rate filters old p)
     ∙ refilled-gives (map_rate_at (seen filters old.path.device) old.book) n old.book running
 
 -- it is in order by that rate
-pub safe-given : {B : Type 0} (filters : Filters) (n : ℕ) (old : MapChannelOf B) (new : MapBook) → IsMapPlanned filters old → is_map_running old.book.state ≡ true → new ≡ book_giving filters n old
+pub safe-given : {B : Type 0} (filters : Filters) (n : ℕ) (old : MapChannelOf B) (new : MapBook) → IsMapPlanned filters old → is_running old.book.state ≡ true → new ≡ book_giving filters n old
     → MapIsSafe (rate_in_plan (plan_in old.path.chain)) new
 safe-given filters n old new p running is =
     let rate = map_rate_at (seen filters old.path.device) old.book in

@@ -15,7 +15,7 @@ use Rattle.pcm_feeder.specs.Kept.{Kept}
 use Rattle.pcm_feeder.specs.Limits.{IsRate}
 use Rattle.pcm_feeder.specs.Racks.{HaveKinds}
 use Rattle.pcm_mix.specs.Mix.{mixed}
-use Rattle.pcm_mixdev.specs.Fades.{faded}
+use Rattle.pcm_feeder.specs.Fades.{faded}
 use Rattle.pcm_oss.specs.declared.event.Way.TheVariants.{Map}
 use Rattle.pcm_oss.specs.declared.request.Request.{Request}
 use Rattle.pcm_rate.specs.declared.rate.Rate.{Rate}
@@ -26,7 +26,8 @@ use Rattle.pcm_path.proofs.Paths.{planned-as}
 use Rattle.pcm_desk.specs.declared.map_book.MapBook.{MapBook}
 use Rattle.pcm_desk.specs.declared.turn.Turn.{Turn}
 use Rattle.pcm_desk.specs.Device.{DeviceSeen, mix_settings, play_rate_between, seen}
-use Rattle.pcm_desk.specs.MapBooks.{is_map_free, is_map_running, taken_of}
+use Rattle.pcm_desk.specs.RunStates.{is_unheld, is_running}
+use Rattle.pcm_desk.specs.MapBooks.{taken_of}
 use Rattle.pcm_desk.specs.MapRequests.{map_ask}
 use Rattle.pcm_desk.specs.MapSafe.{MapIsSafe}
 use Rattle.pcm_desk.specs.Channels.{map_rate_at}
@@ -61,7 +62,7 @@ stands-empty kept filters channel eaten given empty = record {
 
 -- one whose counts and chain stay stands for the same bytes
 pub stands-kept : {B : Type 0} (kept : B → Kept) (filters : Filters) (old new : MapChannelOf B) (bytes : List ℕ) → new.path.chain ≡ old.path.chain → new.book.opening.settings ≡ old.book.opening.settings → new.book.eaten ≡ old.book.eaten → new.book.given ≡ old.book.given
-    → (is_map_free new.book.state ≡ false → is_map_free old.book.state ≡ false) → MapStands kept filters old old.book bytes → MapStands kept filters new new.book bytes
+    → (is_unheld new.book.state ≡ false → is_unheld old.book.state ≡ false) → MapStands kept filters old old.book bytes → MapStands kept filters new new.book bytes
 stands-kept kept filters old new bytes chain settings eaten given held s = record {
   book_is = refl;
   count = s.count ∙ ap (λ (k : ℕ). k * frame_bytes old.book.opening.settings) (sym eaten) ∙ ap (λ (r : Settings). new.book.eaten * frame_bytes r) (sym settings);
@@ -81,7 +82,7 @@ moves-nothing kind kept filters more frames channel = record {
 
 -- so does one whose counts, chain and device stay
 pub moves-kept : {B : Type 0} (kind : B → Kind) (kept : B → Kept) (filters : Filters) (more : List ℕ) (frames : ℕ) (old new : MapChannelOf B) → new.path.device ≡ old.path.device → new.path.chain ≡ old.path.chain → new.book.opening.settings ≡ old.book.opening.settings → new.book.eaten ≡ old.book.eaten → new.book.given ≡ old.book.given
-    → (is_map_free new.book.state ≡ false → is_map_free old.book.state ≡ false) → MapMoves kind kept filters more frames old new
+    → (is_unheld new.book.state ≡ false → is_unheld old.book.state ≡ false) → MapMoves kind kept filters more frames old new
 moves-kept kind kept filters more frames old new device chain settings eaten given held = record {
   kinds = λ h. rw chain h;
   planned = λ p used. planned-as Map filters _ _ old.path new.path device (ap plan_in chain) settings (p (held used));
@@ -139,12 +140,12 @@ book-asked filters request old turn planned asked =
 -- ---- interrupts
 
 -- what a piece or more takes is what the interrupt does
-pub taken-mixing : {B : Type 0} (filters : Filters) (n : ℕ) (channel : MapChannelOf B) → 0 < n → is_map_running channel.book.state ≡ true → area_taken (seen filters channel.path.device) n channel.book (area_of channel) ≡ taken_for filters n channel
+pub taken-mixing : {B : Type 0} (filters : Filters) (n : ℕ) (channel : MapChannelOf B) → 0 < n → is_running channel.book.state ≡ true → area_taken (seen filters channel.path.device) n channel.book (area_of channel) ≡ taken_for filters n channel
 taken-mixing filters n channel some running =
     ap (λ (book : MapBook). area_bytes (area_of channel) (taken_of channel.book) (taken_of book - taken_of channel.book)) (mixing-gives (seen filters channel.path.device) n channel.book some running)
 
 -- a channel that gave all frames of an interrupt
-pub moves-given : {B : Type 0} (kind : B → Kind) (kept : B → Kept) (filters : Filters) (n : ℕ) (old new : MapChannelOf B) (samples : List ℤ) → 0 < n → is_map_running old.book.state ≡ true → MapGives kind kept filters n old new samples → MapTakes kind kept filters n old new
+pub moves-given : {B : Type 0} (kind : B → Kind) (kept : B → Kept) (filters : Filters) (n : ℕ) (old new : MapChannelOf B) (samples : List ℤ) → 0 < n → is_running old.book.state ≡ true → MapGives kind kept filters n old new samples → MapTakes kind kept filters n old new
 moves-given {B = B} kind kept filters n old new samples some running g =
     let taken = taken-mixing filters n old some running in
     let given : new.book.given ≡ old.book.given + n = ap (λ (b : MapBook). b.given) g.book in
@@ -159,7 +160,7 @@ moves-given {B = B} kind kept filters n old new samples some running g =
     }
 
 -- it adds its frames to the block, at the gain of its slot
-pub turned-given : {B : Type 0} (kind : B → Kind) (kept : B → Kept) (filters : Filters) (n : ℕ) (fader : Gain) (old new : MapChannelOf B) (samples sum acc : List ℤ) (bits : ℕ) → 0 < n → is_map_running old.book.state ≡ true → MapGives kind kept filters n old new samples
+pub turned-given : {B : Type 0} (kind : B → Kind) (kept : B → Kept) (filters : Filters) (n : ℕ) (fader : Gain) (old new : MapChannelOf B) (samples sum acc : List ℤ) (bits : ℕ) → 0 < n → is_running old.book.state ≡ true → MapGives kind kept filters n old new samples
     → length samples ≡ n * channels_of old.path.device.mix.layout → length sum ≡ n * channels_of old.path.device.mix.layout → bits ≡ bits_of old.path.device.mix.format → acc ≡ mixed bits sum (faded old.path.device.mix.layout fader samples)
     → (bytes : List ℕ) → MapStands kept filters old old.book bytes → acc ≡ map_turned (seen filters old.path.device) n fader old.book bytes (area_of old) sum
 turned-given kind kept filters n fader old new samples sum acc bits some running g samples_long sum_long bits_is acc_is bytes s =
@@ -182,7 +183,7 @@ turned-given kind kept filters n fader old new samples sum acc bits some running
     (ap (λ b. cond b n 0) (sym running))
 
 -- a channel that isn't started adds nothing to a block
-pub turned-none : (device : DeviceSeen) (n : ℕ) (fader : Gain) (book : MapBook) (bytes area : List ℕ) (sum : List ℤ) → is_map_running book.state ≡ false → sum ≡ map_turned device n fader book bytes area sum
+pub turned-none : (device : DeviceSeen) (n : ℕ) (fader : Gain) (book : MapBook) (bytes area : List ℕ) (sum : List ℤ) → is_running book.state ≡ false → sum ≡ map_turned device n fader book bytes area sum
 turned-none device n fader book bytes area sum idle =
     let layout : Layout = (mix_settings device).layout in
     let size : ℕ = channels_of layout in

@@ -6,8 +6,8 @@ use Rattle.std.proofs.lemmas.Bool.{cases_lt}
 use Rattle.std.proofs.lemmas.List.{append-nil, append_assoc, drop_all, drop_at, length-drop, length-take-le, take_all, take-append-drop}
 use Rattle.std.proofs.lemmas.List.Elements.{All-nil, All-append}
 use Rattle.std.proofs.lemmas.List.Concat.{flat_map-append}
-use Rattle.pcm_fixed.specs.declared.fixed.Fixed.{Fixed}
-use Rattle.pcm_fixed.specs.Fixed.{fixed_items}
+use Rattle.pcm_sequence.specs.declared.fixed.Fixed.{Fixed}
+use Rattle.pcm_sequence.specs.Fixed.{fixed_items}
 use Rattle.pcm_num.specs.Limit.{FitsBits}
 use Rattle.pcm_format.specs.declared.settings.Settings.{Settings}
 use Rattle.pcm_format.specs.Formats.{bits_of}
@@ -40,8 +40,9 @@ use Rattle.pcm_chain.proofs.Pushing.{interleaved-bits}
 use Rattle.pcm_chain.proofs.Waiting.{frames-waiting}
 use Rattle.pcm_desk.specs.declared.device.Device.{Device}
 use Rattle.pcm_desk.specs.declared.map_book.MapBook.{MapBook}
-use Rattle.pcm_desk.specs.Device.{DeviceSeen, filters_of, mix_settings, play_plan_between, quality_of, seen}
-use Rattle.pcm_desk.specs.MapBooks.{is_map_running, map_gives, taken_of}
+use Rattle.pcm_desk.specs.Device.{DeviceSeen, device_filters, mix_settings, play_plan_between, device_quality, seen}
+use Rattle.pcm_desk.specs.RunStates.{is_running}
+use Rattle.pcm_desk.specs.MapBooks.{map_gives, taken_of}
 use Rattle.pcm_desk.specs.Channels.{map_rate_at}
 use Rattle.pcm_desk.specs.Openings.{ring_bytes}
 use Rattle.pcm_sound.specs.Areas.{area_bytes}
@@ -51,13 +52,12 @@ use Rattle.pcm_map.specs.declared.channel.MapChannelOf.{MapChannelOf}
 use Rattle.pcm_map.specs.Channels.{area_of, CountsFit, IsMapPlanned, IsMapReady, MapStands, MapStandsForSome}
 use Rattle.pcm_map.specs.Pieces.{book_giving, taken_for, MapGives}
 use Rattle.pcm_oss.specs.declared.event.Way.TheVariants.{Map}
-use Rattle.pcm_path.proofs.Paths.{planned-as}
+use Rattle.pcm_path.proofs.Paths.{planned-as, front-written}
 use Rattle.pcm_map.proofs.Areas.{area-add, length-area_bytes}
 use Rattle.pcm_map.proofs.Books.{counts-fewer, given-allowed, gives-add, gives-none, planned-fits, planned-near, planned-rate, planned-safe, taken-grows}
 use Rattle.pcm_map.proofs.Held.{running-held}
 use Rattle.pcm_sound.proofs.DeviceLists.{frames-channels}
 use Rattle.pcm_sound.proofs.Sounding.{frames-append, frames-front}
-use Rattle.pcm_path.proofs.Paths.{front-written}
 
 -- ---- samples
 
@@ -68,8 +68,8 @@ samples-append : (device : DeviceSeen) (gain : Gain) (settings : Settings) (byte
 samples-append device gain settings bytes more from count is allowed =
     let plan = play_plan_between device settings in
     let rate = rate_in_plan plan in
-    ap (λ (list : List Frame). interleaved (outs plan (filters_of device) gain list from count)) (frames-append settings bytes more)
-    ∙ ap interleaved (outs-append plan (filters_of device) gain (frames settings bytes) _ from count is
+    ap (λ (list : List Frame). interleaved (outs plan (device_filters device) gain list from count)) (frames-append settings bytes more)
+    ∙ ap interleaved (outs-append plan (device_filters device) gain (frames settings bytes) _ from count is
     (subst (λ (k : ℕ). from + count ≤ can rate k) (sym (length-frames settings bytes)) allowed))
 
 -- samples given in two parts
@@ -78,8 +78,8 @@ samples-add : (device : DeviceSeen) (gain : Gain) (settings : Settings) (bytes :
 samples-add device gain settings bytes from n m =
     let plan = play_plan_between device settings in
     let list = frames settings bytes in
-    ap interleaved (outs-add plan (filters_of device) gain list from n m)
-    ∙ flat_map-append (λ (frame : Frame). frame) (outs plan (filters_of device) gain list from n) (outs plan (filters_of device) gain list (from + n) m)
+    ap interleaved (outs-add plan (device_filters device) gain list from n m)
+    ∙ flat_map-append (λ (frame : Frame). frame) (outs plan (device_filters device) gain list from n) (outs plan (device_filters device) gain list (from + n) m)
 
 -- bytes taken in two parts
 between-add : (area : List ℕ) (first middle last : ℕ) → first ≤ middle → middle ≤ last → area_bytes area first (last - first) ≡ area_bytes area first (middle - first) ++ area_bytes area middle (last - middle)
@@ -109,7 +109,7 @@ pub record PullsPiece {B : Type 0} (kept : B → Kept) (filters : Filters) (gain
   pub bits : HaveBits (bits_of old.path.device.mix.format) (outs (play_plan_between (seen filters old.path.device) old.book.opening.settings) filters gain (frames old.book.opening.settings (bytes ++ taken_for filters n old)) old.book.given n)
   pub chain_is : ChainStands kept filters new (frames old.book.opening.settings (bytes ++ taken_for filters n old)) 0 (old.book.given + n)
 
-pub pulls-piece : {B : Type 0} (kept : B → Kept) (filters : Filters) (gain : Gain) (n : ℕ) (old : MapChannelOf B) (ring : Ring) (new : ChainOf B) (pulled : Pulled) (out_old out_new : List ℤ) → IsMapPlanned filters old → is_map_running old.book.state ≡ true
+pub pulls-piece : {B : Type 0} (kept : B → Kept) (filters : Filters) (gain : Gain) (n : ℕ) (old : MapChannelOf B) (ring : Ring) (new : ChainOf B) (pulled : Pulled) (out_old out_new : List ℤ) → IsMapPlanned filters old → is_running old.book.state ≡ true
     → ring.bytes ≡ taken_for filters n old → PullsOn kept filters gain false n old.book.opening.settings.format ring old.path.chain new pulled out_old out_new
     → (bytes : List ℕ) → MapStands kept filters old old.book bytes → PullsPiece kept filters gain n old bytes new pulled out_old out_new
 pulls-piece {B = B} kept filters gain n old ring new pulled out_old out_new planned running taken pulls bytes s =
@@ -162,7 +162,7 @@ pulls-piece {B = B} kept filters gain n old ring new pulled out_old out_new plan
           ∙ ap (λ (q : PlanSeen). written (outs q filters gain (x ++ waiting) book.given pulled.given) out_old) planned.plan_is
           ∙ ap (λ (fs : List Frame). written (outs plan filters gain fs book.given pulled.given) out_old) joined
           ∙ ap (λ (k : ℕ). written (outs plan filters gain list book.given k) out_old) went.0;
-      bits = subst (λ (deep : ℕ). HaveBits deep (outs plan filters gain list book.given n)) (bits-played filters (quality_of device) settings (mix_settings device))
+      bits = subst (λ (deep : ℕ). HaveBits deep (outs plan filters gain list book.given n)) (bits-played filters (device_quality device) settings (mix_settings device))
           (subst (λ (k : ℕ). HaveBits (bits_left plan.stages) (outs plan filters gain list book.given k)) went.0
           (subst (λ (fs : List Frame). HaveBits (bits_left plan.stages) (outs plan filters gain fs book.given pulled.given)) joined
           (subst (λ (q : PlanSeen). HaveBits (bits_left q.stages) (outs q filters gain (x ++ waiting) book.given pulled.given)) planned.plan_is p.bits)));
@@ -224,7 +224,7 @@ piece-front kept filters gain n old bytes new pulled out_old out_new planned p =
     ap (take (n * size)) p.samples ∙ front-written size n given out_old have (length-outs plan filters gain list old.book.given n)
 
 -- what a piece leaves of a channel
-pub piece-gives : {B : Type 0} (kind : B → Kind) (kept : B → Kept) (filters : Filters) (n : ℕ) (old new : MapChannelOf B) (ring : Ring) (pulled : Pulled) (gain : Gain) (out_old out_new : List ℤ) → IsMapPlanned filters old → is_map_running old.book.state ≡ true
+pub piece-gives : {B : Type 0} (kind : B → Kind) (kept : B → Kept) (filters : Filters) (n : ℕ) (old new : MapChannelOf B) (ring : Ring) (pulled : Pulled) (gain : Gain) (out_old out_new : List ℤ) → IsMapPlanned filters old → is_running old.book.state ≡ true
     → new.path.device ≡ old.path.device → new.area ≡ old.area → plan_in new.path.chain ≡ plan_in old.path.chain → (HaveKinds kind (boxes_in old.path.chain) → HaveKinds kind (boxes_in new.path.chain))
     → new.book ≡ book_giving filters n old → ring.bytes ≡ taken_for filters n old → gain ≡ map_gain old.book
     → PullsOn kept filters gain false n old.book.opening.settings.format ring old.path.chain new.path.chain pulled out_old out_new → MapStandsForSome kept filters old → MapGives kind kept filters n old new out_new
@@ -347,7 +347,7 @@ gives-more {B = B} kind kept filters a b old mid new samples piece planned g h r
     }
 
 -- what was ready is ready still
-pub ready-given : {B : Type 0} (kind : B → Kind) (kept : B → Kept) (filters : Filters) (n : ℕ) (old new : MapChannelOf B) (samples : List ℤ) → is_map_running old.book.state ≡ true → IsMapReady kind kept filters old → MapGives kind kept filters n old new samples → IsMapReady kind kept filters new
+pub ready-given : {B : Type 0} (kind : B → Kind) (kept : B → Kept) (filters : Filters) (n : ℕ) (old new : MapChannelOf B) (samples : List ℤ) → is_running old.book.state ≡ true → IsMapReady kind kept filters old → MapGives kind kept filters n old new samples → IsMapReady kind kept filters new
 ready-given kind kept filters n old new samples running ready g = record {
   kinds = g.kinds ready.kinds;
   planned = λ used. planned-as Map filters _ _ old.path new.path g.device g.plan (ap (λ (book : MapBook). book.opening.settings) g.book) (ready.planned (running-held old.book.state running));

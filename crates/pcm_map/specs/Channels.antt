@@ -1,6 +1,6 @@
 -- A mapped channel: what it stands for, what stands in its area, and what an event changes of it.
 use Rattle.std.specs.Prelude.{◌≡◌, ℕ, ◌+◌, ◌*◌, ◌^◌, ◌<◌, ◌≤◌, false, ℤ, if◌then◌else◌, List, [], ◌++◌, length, take}
-use Rattle.pcm_fixed.specs.Fixed.{fixed_items}
+use Rattle.pcm_sequence.specs.Fixed.{fixed_items}
 use Rattle.pcm_format.specs.Frames.{frame_bytes, frames}
 use Rattle.pcm_rate.specs.Rates.{need}
 use Rattle.pcm_feeder.specs.declared.kind.Kind.{Kind}
@@ -12,7 +12,8 @@ use Rattle.pcm_oss.specs.declared.event.Way.TheVariants.{Map}
 use Rattle.pcm_desk.specs.declared.map_book.MapBook.{MapBook}
 use Rattle.pcm_desk.specs.declared.device.Device.{Device}
 use Rattle.pcm_desk.specs.Device.{seen}
-use Rattle.pcm_desk.specs.MapBooks.{is_map_free, taken_of}
+use Rattle.pcm_desk.specs.RunStates.{is_unheld}
+use Rattle.pcm_desk.specs.MapBooks.{taken_of}
 use Rattle.pcm_desk.specs.Openings.{ring_bytes}
 use Rattle.pcm_desk.specs.Channels.{map_rate_at}
 use Rattle.pcm_desk.specs.Desk.{map_unopened}
@@ -32,14 +33,14 @@ IsMapPlanned filters channel = IsPlanned Map filters channel.book.opening.settin
 
 -- the same of a channel that isn't free; of a free one nothing is said
 abbrev pub IsMapServed : {B : Type 0} → Filters → MapChannelOf B → Type 0
-IsMapServed filters channel = is_map_free channel.book.state ≡ false → IsMapPlanned filters channel
+IsMapServed filters channel = is_unheld channel.book.state ≡ false → IsMapPlanned filters channel
 
 -- A channel stands for a book and all bytes that were taken of its area in its run: the chain has eaten them all, and no silence. Of a
 -- free one's chain nothing is said.
 pub record MapStands {B : Type 0} (kept : B → Kept) (filters : Filters) (channel : MapChannelOf B) (book : MapBook) (bytes : List ℕ) : Type 0 where
   pub book_is : channel.book ≡ book
   pub count : length bytes ≡ taken_of book
-  pub chain_is : is_map_free book.state ≡ false → ChainStands kept filters channel.path.chain (frames book.opening.settings bytes) 0 book.given
+  pub chain_is : is_unheld book.state ≡ false → ChainStands kept filters channel.path.chain (frames book.opening.settings bytes) 0 book.given
 
 -- a channel stands for its book and some bytes
 pub record MapStandsForSome {B : Type 0} (kept : B → Kept) (filters : Filters) (channel : MapChannelOf B) : Type 0 where

@@ -1,7 +1,7 @@
 //! A mapped channel: its book, its area, and the path by whose ring and chain the device takes what stands there.
 
 ghost use Rattle.std.specs.Prelude.{◌≡◌, ◌+◌, ◌*◌, ◌^◌, ◌<◌, ◌≤◌, [], length, IfOk, OnErr, All, IsTrue};
-ghost use Rattle.pcm_fixed.specs.Fixed.{fixed_len};
+ghost use Rattle.pcm_sequence.specs.Fixed.{fixed_len};
 ghost use Rattle.pcm_format.specs.Formats.{bits_of};
 ghost use Rattle.pcm_format.specs.Layouts.{channels_of};
 ghost use Rattle.pcm_num.specs.Limit.{FitsBits};
@@ -12,7 +12,8 @@ ghost use Rattle.pcm_oss.specs.declared.fragments.TheConstants.{RING_BYTES};
 ghost use Rattle.pcm_rate.specs.Rates.{IsRatio};
 ghost use Rattle.pcm_ring.specs.Ring.{empty_ring};
 ghost use Rattle.pcm_desk.specs.Device.{HasRates, seen};
-ghost use Rattle.pcm_desk.specs.MapBooks.{is_map_free, is_map_running, is_map_setup, map_begun, map_closed, poke_turn, taken_of};
+ghost use Rattle.pcm_desk.specs.RunStates.{is_unheld, is_running, is_in_setup};
+ghost use Rattle.pcm_desk.specs.MapBooks.{map_begun, map_closed, poke_turn, taken_of};
 ghost use Rattle.pcm_desk.specs.MapRequests.{map_ask};
 ghost use Rattle.pcm_desk.specs.MapSafe.{MapIsSafe};
 ghost use Rattle.pcm_desk.specs.Channels.{map_mixing};
@@ -23,14 +24,13 @@ ghost use Rattle.std.proofs.Props.{props};
 ghost use Rattle.pcm_sound.specs.Areas.{poked, silent_area};
 
 use crate::area::{put_round, recut, silence};
-use pcm_desk::{Device, MapBook, MapState, Opening};
-use pcm_feeder::{Feeder, Gain, RackOf, Tables};
-use pcm_fixed::Fixed;
+use pcm_desk::{Device, MapBook, Opening, RunState};
+use pcm_feeder::{Feeder, Gain, RackOf, Tables, apply_gain};
 use pcm_format::Settings;
 use pcm_mix::mix_into;
-use pcm_mixdev::apply_gain;
 use pcm_oss::{Answer, Errno, RING_BYTES, Request, Way, gain_of};
 use pcm_path::PathOf;
+use pcm_sequence::Fixed;
 use std::alloc::{AllocError, Global};
 
 /// How many frames a piece of a refill has at most.
@@ -73,7 +73,7 @@ impl<B: Feeder> MapChannelOf<B> {
         let mut path = PathOf::new(alloc, device, rack)?;
         let mut area = Fixed::new(vec![in alloc; 0u8; RING_BYTES as usize]?);
         let book = MapBook {
-            state: MapState::Free,
+            state: RunState::Free,
             ..MapBook::begun(device.mix)
         };
         begin_run(&mut path, tables, &book.opening);
@@ -81,18 +81,18 @@ impl<B: Feeder> MapChannelOf<B> {
         Ok(MapChannelOf { book, path, area })
     }
 
-    /// Whether nobody has the channel.
-    pub fn is_free(&self) -> bool
-        ensures { result ≡ is_map_free self.now.book.state }
-    {
-        self.book.is_free()
-    }
-
     /// Whether the channel is open, and hasn't started.
     pub fn is_at_rest(&self) -> bool
-        ensures { result ≡ is_map_setup self.now.book.state }
+        ensures { result ≡ is_in_setup self.now.book.state }
     {
         self.book.is_setup()
+    }
+
+    /// Whether nobody has the channel.
+    pub fn is_free(&self) -> bool
+        ensures { result ≡ is_unheld self.now.book.state }
+    {
+        self.book.is_free()
     }
 
     /// A new opening begins, whose area is silent, and whose sound goes through the plan of its settings.
@@ -193,7 +193,7 @@ impl<B: Feeder> MapChannelOf<B> {
 
     // A started channel gives its next frames, piece by piece.
     fn give(&mut self, tables: &Tables, n: usize, frames: &mut [i32])
-        requires running { IsTrue (is_map_running self.old.book.state) }
+        requires running { IsTrue (is_running self.old.book.state) }
         requires ready { IsMapReady B.kind B.kept tables.now self.old }
         requires room { n * channels_of self.old.path.device.mix.layout ≤ length frames.old }
         requires count { CountsFit tables.now n self.old }
@@ -210,7 +210,7 @@ impl<B: Feeder> MapChannelOf<B> {
 
     // A started channel gives so few frames that all that they need has room in the ring.
     fn give_piece(&mut self, tables: &Tables, n: usize, frames: &mut [i32])
-        requires running { IsTrue (is_map_running self.old.book.state) }
+        requires running { IsTrue (is_running self.old.book.state) }
         requires few { n ≤ PIECE_FRAMES }
         requires ready { IsMapReady B.kind B.kept tables.now self.old }
         requires room { n * channels_of self.old.path.device.mix.layout ≤ length frames.old }

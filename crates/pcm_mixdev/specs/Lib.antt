@@ -1,2 +1,1 @@
-pub mod Fades
 pub mod Mixers

@@ -3,7 +3,7 @@
 ghost use Rattle.std.specs.Prelude.{◌≡◌, ◌≤◌, [], length, take, IfOk};
 ghost use Rattle.pcm_oss.specs.Replies.{bytes_due};
 
-use pcm_fixed::Fixed;
+use pcm_sequence::Fixed;
 use std::alloc::{AllocError, Global};
 use std::marker::Model;
 
@@ -63,7 +63,7 @@ pub struct ReplyBuf {
 
 impl Model for ReplyBuf {
     ghost use Rattle.std.specs.Prelude.{◌≡◌, ◌≤◌, length, take};
-    ghost use Rattle.pcm_fixed.specs.Fixed.{fixed_items};
+    ghost use Rattle.pcm_sequence.specs.Fixed.{fixed_items};
     ghost use Rattle.pcm_oss.specs.Replies.{Reply};
     ghost use Rattle.pcm_oss.specs.declared.reply.TheConstants.{REPLY_BYTES};
 

@@ -1,7 +1,7 @@
 //! Bytes in a room of a fixed length, which a form in memory fills.
 ghost use Rattle.std.specs.Prelude.{◌≡◌, ◌+◌, ◌++◌, ◌≤◌, [], length, nat_lt, take, IfOk};
 
-use pcm_fixed::Fixed;
+use pcm_sequence::Fixed;
 use std::alloc::{AllocError, Global};
 use std::marker::Model;
 
@@ -14,7 +14,7 @@ pub(crate) struct Room {
 
 impl Model for Room {
     ghost use Rattle.std.specs.Prelude.{◌≤◌, take};
-    ghost use Rattle.pcm_fixed.specs.Fixed.{fixed_items, fixed_len};
+    ghost use Rattle.pcm_sequence.specs.Fixed.{fixed_items, fixed_len};
     ghost use Rattle.pcm_outside.specs.Rooms.{Filled};
 
     ghost Value = { Filled };

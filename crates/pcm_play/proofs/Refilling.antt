@@ -18,8 +18,8 @@ use Rattle.pcm_feeder.specs.Racks.{HaveKinds}
 use Rattle.pcm_feeder.specs.Limits.{IsGain, IsRate}
 use Rattle.pcm_feeder.specs.Streams.{interleaved, written}
 use Rattle.pcm_mix.specs.Mix.{mixed}
-use Rattle.pcm_mixdev.specs.Fades.{faded}
-use Rattle.pcm_mixdev.proofs.FadedBits.{faded-fits}
+use Rattle.pcm_feeder.specs.Fades.{faded}
+use Rattle.pcm_feeder.proofs.FadedBits.{faded-fits}
 use Rattle.pcm_plan.specs.Fits.{HaveBits}
 use Rattle.pcm_plan.specs.Plans.{PlanSeen, rate_in_plan}
 use Rattle.pcm_plan.specs.Through.{outs}
@@ -30,7 +30,7 @@ use Rattle.pcm_chain.specs.Bits.{bits_left}
 use Rattle.pcm_chain.specs.Chains.{boxes_in, plan_in, ChainStands}
 use Rattle.pcm_chain.specs.Pulls.{waiting_frames, IsPastTheEnd, Pulls, StandsBehind}
 use Rattle.pcm_desk.specs.declared.play_book.PlayBook.{PlayBook}
-use Rattle.pcm_desk.specs.Device.{DeviceSeen, IsDevice, filters_of, mix_settings, play_plan_between, quality_of, seen}
+use Rattle.pcm_desk.specs.Device.{DeviceSeen, IsDevice, device_filters, mix_settings, play_plan_between, device_quality, seen}
 use Rattle.pcm_desk.specs.PlayBooks.{frames_written, giving, is_draining, is_started, play_fill_of, refilled}
 use Rattle.pcm_desk.specs.Channels.{mixing, play_rate_at}
 use Rattle.pcm_desk.proofs.Ratios.{plan-between-fits}
@@ -54,9 +54,9 @@ use Rattle.pcm_play.proofs.Refills.{Goes, PullsAsCounted, giving-none, refilled-
 -- what a pull of a channel's chain says of its frames, once the run's bytes are known
 pub record PullsRun {B : Type 0} (kept : B → Kept) (device : DeviceSeen) (gain : Gain) (n : ℕ) (book : PlayBook) (bytes : List ℕ) (new : ChainOf B) (pulled : Pulled) (out_old out_new : List ℤ) : Type 0 where
   pub counted : PullsAsCounted (play_rate_at device book) n book pulled
-  pub samples : out_new ≡ written (outs (play_plan_between device book.opening.settings) (filters_of device) gain (frames book.opening.settings bytes) book.given pulled.given) out_old
-  pub bits : HaveBits (bits_of (mix_settings device).format) (outs (play_plan_between device book.opening.settings) (filters_of device) gain (frames book.opening.settings bytes) book.given pulled.given)
-  pub behind : StandsBehind kept (filters_of device) (is_draining book.state) (drop book.eaten (frames book.opening.settings bytes)) new (take book.eaten (frames book.opening.settings bytes)) book.given pulled
+  pub samples : out_new ≡ written (outs (play_plan_between device book.opening.settings) (device_filters device) gain (frames book.opening.settings bytes) book.given pulled.given) out_old
+  pub bits : HaveBits (bits_of (mix_settings device).format) (outs (play_plan_between device book.opening.settings) (device_filters device) gain (frames book.opening.settings bytes) book.given pulled.given)
+  pub behind : StandsBehind kept (device_filters device) (is_draining book.state) (drop book.eaten (frames book.opening.settings bytes)) new (take book.eaten (frames book.opening.settings bytes)) book.given pulled
 
 -- what a pull means, for whatever its chain stands for
 abbrev PullsFor : {B : Type 0} → (B → Kept) → Filters → Gain → Bool → ℕ → List Frame → ChainOf B → ChainOf B → Pulled → List ℤ → List ℤ → Type 0
@@ -82,7 +82,7 @@ pulls-run {B = B} kept filters old new gain no_more n pulled out_old out_new byt
     let all : List Frame = frames book.opening.settings bytes in
     let within = eaten-written (play_rate_at device book) book (safe-at filters old planned) in
     let whole : book.eaten ≤ whole_frames book.opening.settings (length bytes) = (let count = s.count in rw count within) in
-    let at_plan : PullsFor kept (filters_of device) gain (is_draining book.state) n (drop book.eaten all) old.path.chain new pulled out_old out_new =
+    let at_plan : PullsFor kept (device_filters device) gain (is_draining book.state) n (drop book.eaten all) old.path.chain new pulled out_old out_new =
     rw (drains, waiting-is kept filters old bytes planned within s) at pulls in
     let long : length all ≡ frames_written book = length-frames book.opening.settings bytes ∙ ap (whole_frames book.opening.settings) s.count in
     let p = at_plan (take book.eaten all) s.zeros book.given (s.chain_is (started-held book.state started)) (λ some.
@@ -92,11 +92,11 @@ pulls-run {B = B} kept filters old new gain no_more n pulled out_old out_new byt
       counted = pulls-counted (play_rate_at device book) n book pulled (length (take book.eaten all)) (length (drop book.eaten all)) started within
           (length-eaten book.opening.settings bytes book.eaten whole) (length-waiting book.opening.settings bytes book.eaten ∙ ap (λ m. whole_frames book.opening.settings m - book.eaten) s.count)
           (rw (ap (λ (plan : PlanSeen). rate_in_plan plan) planned.plan_is) at p.far);
-      samples = p.frames ∙ ap (λ (plan : PlanSeen). written (outs plan (filters_of device) gain (take book.eaten all ++ drop book.eaten all) book.given pulled.given) out_old) planned.plan_is
-          ∙ ap (λ fs. written (outs (play_plan_between device book.opening.settings) (filters_of device) gain fs book.given pulled.given) out_old) (take-append-drop book.eaten all);
-      bits = subst (λ k. HaveBits k (outs (play_plan_between device book.opening.settings) (filters_of device) gain all book.given pulled.given)) (bits-played (filters_of device) (quality_of device) book.opening.settings (mix_settings device))
-          (subst (λ fs. HaveBits (bits_left (play_plan_between device book.opening.settings).stages) (outs (play_plan_between device book.opening.settings) (filters_of device) gain fs book.given pulled.given)) (take-append-drop book.eaten all)
-          (subst (λ (plan : PlanSeen). HaveBits (bits_left plan.stages) (outs plan (filters_of device) gain (take book.eaten all ++ drop book.eaten all) book.given pulled.given)) planned.plan_is p.bits));
+      samples = p.frames ∙ ap (λ (plan : PlanSeen). written (outs plan (device_filters device) gain (take book.eaten all ++ drop book.eaten all) book.given pulled.given) out_old) planned.plan_is
+          ∙ ap (λ fs. written (outs (play_plan_between device book.opening.settings) (device_filters device) gain fs book.given pulled.given) out_old) (take-append-drop book.eaten all);
+      bits = subst (λ k. HaveBits k (outs (play_plan_between device book.opening.settings) (device_filters device) gain all book.given pulled.given)) (bits-played (device_filters device) (device_quality device) book.opening.settings (mix_settings device))
+          (subst (λ fs. HaveBits (bits_left (play_plan_between device book.opening.settings).stages) (outs (play_plan_between device book.opening.settings) (device_filters device) gain fs book.given pulled.given)) (take-append-drop book.eaten all)
+          (subst (λ (plan : PlanSeen). HaveBits (bits_left plan.stages) (outs plan (device_filters device) gain (take book.eaten all ++ drop book.eaten all) book.given pulled.given)) planned.plan_is p.bits));
       behind = p.stands;
     }
 
@@ -148,13 +148,13 @@ turned-none device n fader book bytes sum idle =
 -- the samples that a chain gave, which stand at the front of a buffer
 given-front : {B : Type 0} (kept : B → Kept) (device : DeviceSeen) (gain : Gain) (n : ℕ) (book : PlayBook) (bytes : List ℕ) (new : ChainOf B) (pulled : Pulled) (out_old out_new : List ℤ) → IsDevice device → IsRate book.opening.settings.rate
     → PullsRun kept device gain n book bytes new pulled out_old out_new
-    → take (pulled.given * channels_of (mix_settings device).layout) out_new ≡ interleaved (outs (play_plan_between device book.opening.settings) (filters_of device) gain (frames book.opening.settings bytes) book.given pulled.given)
+    → take (pulled.given * channels_of (mix_settings device).layout) out_new ≡ interleaved (outs (play_plan_between device book.opening.settings) (device_filters device) gain (frames book.opening.settings bytes) book.given pulled.given)
 given-front kept device gain n book bytes new pulled out_old out_new d rate p =
     let c : ℕ = channels_of (mix_settings device).layout in
     let plan : PlanSeen = play_plan_between device book.opening.settings in
-    let given : List Frame = outs plan (filters_of device) gain (frames book.opening.settings bytes) book.given pulled.given in
-    let have = outs-channels plan (filters_of device) gain (frames book.opening.settings bytes) book.given pulled.given (plan-between-fits device book.opening.settings d rate) (frames-channels book.opening.settings bytes) in
-    ap (take (pulled.given * c)) p.samples ∙ front-written c pulled.given given out_old have (length-outs plan (filters_of device) gain (frames book.opening.settings bytes) book.given pulled.given)
+    let given : List Frame = outs plan (device_filters device) gain (frames book.opening.settings bytes) book.given pulled.given in
+    let have = outs-channels plan (device_filters device) gain (frames book.opening.settings bytes) book.given pulled.given (plan-between-fits device book.opening.settings d rate) (frames-channels book.opening.settings bytes) in
+    ap (take (pulled.given * c)) p.samples ∙ front-written c pulled.given given out_old have (length-outs plan (device_filters device) gain (frames book.opening.settings bytes) book.given pulled.given)
 
 -- they have the bits of the mix, also at a gain
 pub given-fits : {B : Type 0} (kept : B → Kept) (device : DeviceSeen) (gain fader : Gain) (n : ℕ) (book : PlayBook) (bytes : List ℕ) (new : ChainOf B) (pulled : Pulled) (out_old out_new : List ℤ) (size bits : ℕ)
@@ -163,7 +163,7 @@ pub given-fits : {B : Type 0} (kept : B → Kept) (device : DeviceSeen) (gain fa
 given-fits kept device gain fader n book bytes new pulled out_old out_new size bits d rate fades p size_is bits_is =
     let deep : ℕ = bits_of (mix_settings device).format in
     let plan : PlanSeen = play_plan_between device book.opening.settings in
-    let given : List Frame = outs plan (filters_of device) gain (frames book.opening.settings bytes) book.given pulled.given in
+    let given : List Frame = outs plan (device_filters device) gain (frames book.opening.settings bytes) book.given pulled.given in
     let front = given-front kept device gain n book bytes new pulled out_old out_new d rate p in
     let fits : All (FitsBits deep) (take (pulled.given * channels_of (mix_settings device).layout) out_new) = subst (All (FitsBits deep)) (sym front) (interleaved-bits deep given p.bits) in
     rw (size_is, bits_is) (faded-fits deep (mix_settings device).layout fader (take (pulled.given * channels_of (mix_settings device).layout) out_new) fades fits)

@@ -17,10 +17,9 @@ ghost use Rattle.pcm_desk.specs.Channels.{asking, mixing};
 ghost use Rattle.pcm_desk.specs.Here.{IsHere};
 
 use pcm_desk::{Device, Here, PlayBook, PlayState};
-use pcm_feeder::{Feeder, Gain, RackOf, Tables};
+use pcm_feeder::{Feeder, Gain, RackOf, Tables, apply_gain};
 use pcm_format::Settings;
 use pcm_mix::mix_into;
-use pcm_mixdev::apply_gain;
 use pcm_oss::{Answer, Errno, Request, Way, gain_of};
 use pcm_path::PathOf;
 use std::alloc::{AllocError, Global};

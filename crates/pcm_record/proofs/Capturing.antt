@@ -25,12 +25,13 @@ use Rattle.pcm_chain.specs.Pushes.{pushed_frames, room_for, HasRecorded, Pushes}
 use Rattle.pcm_chain.proofs.Counting.{allowed-grows}
 use Rattle.pcm_chain.proofs.Pushing.{count-frames}
 use Rattle.pcm_desk.specs.declared.record_book.RecordBook.{RecordBook}
-use Rattle.pcm_desk.specs.declared.record_book.RecordState.{RecordState}
-use Rattle.pcm_desk.specs.declared.record_book.RecordState.TheVariants.{Free, Setup, Running}
+use Rattle.pcm_desk.specs.declared.run_state.RunState.{RunState}
+use Rattle.pcm_desk.specs.declared.run_state.RunState.TheVariants.{Free, Setup, Running}
 use Rattle.pcm_desk.specs.Device.{DeviceSeen, IsDevice, seen}
 use Rattle.pcm_desk.specs.Channels.{capturing, record_rate_at}
 use Rattle.pcm_desk.specs.Openings.{ring_bytes}
-use Rattle.pcm_desk.specs.RecordBooks.{captured, captured_in, captures, coming, is_running, keeping, record_fill_of, record_free_of}
+use Rattle.pcm_desk.specs.RunStates.{is_running}
+use Rattle.pcm_desk.specs.RecordBooks.{captured, captured_in, captures, coming, keeping, record_fill_of, record_free_of}
 use Rattle.pcm_desk.specs.RecordSafe.{RecordIsSafe}
 use Rattle.pcm_desk.proofs.Ratios.{record-few, record-ratio-between}
 use Rattle.pcm_desk.proofs.RecordSafe.{record-safe-captured}
@@ -49,7 +50,7 @@ use Rattle.pcm_record.proofs.Stands.{stands-as, stands-captured}
 captures-running : (rate : Rate) (n : ℕ) (book : RecordBook) → is_running book.state ≡ true → captures rate n book ≡ captured rate n book
 captures-running rate n book runs = at book.state runs
   where
-    at : (state : RecordState) → is_running state ≡ true → captures rate n book ≡ captured_in rate state n book
+    at : (state : RunState) → is_running state ≡ true → captures rate n book ≡ captured_in rate state n book
     at Free e = cc
     at Setup e = cc
     at Running e = refl

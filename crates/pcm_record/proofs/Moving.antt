@@ -22,7 +22,8 @@ use Rattle.pcm_desk.specs.declared.record_book.RecordBook.{RecordBook}
 use Rattle.pcm_desk.specs.declared.turn.Turn.{Turn}
 use Rattle.pcm_desk.specs.Device.{DeviceSeen, IsDevice, record_rate_between, seen}
 use Rattle.pcm_desk.specs.Channels.{record_rate_at}
-use Rattle.pcm_desk.specs.RecordBooks.{is_record_free, is_record_setup, is_running, read_turn, record_fill_of}
+use Rattle.pcm_desk.specs.RunStates.{is_unheld, is_in_setup, is_running}
+use Rattle.pcm_desk.specs.RecordBooks.{read_turn, record_fill_of}
 use Rattle.pcm_desk.specs.RecordRequests.{record_ask}
 use Rattle.pcm_desk.specs.RecordSafe.{IsRecordUnstarted, RecordIsSafe}
 use Rattle.pcm_desk.proofs.Refused.{read-done}
@@ -65,7 +66,7 @@ moves-ended kind kept filters old new kinds planned none empty = record {
 
 -- a channel of which `count` bytes were read, or whose state alone changed
 pub moves-read : {B : Type 0} (kind : B → Kind) (kept : B → Kept) (filters : Filters) (count : ℕ) (old new : RecordChannelOf B) → new.path.device ≡ old.path.device → new.path.chain ≡ old.path.chain → new.path.ring.bytes ≡ drop count old.path.ring.bytes → Reads count old.book new.book
-    → (is_record_free new.book.state ≡ false → is_record_free old.book.state ≡ false) → RecordMoves kind kept filters [] 0 old new
+    → (is_unheld new.book.state ≡ false → is_unheld old.book.state ≡ false) → RecordMoves kind kept filters [] 0 old new
 moves-read {B = B} kind kept filters count old new device chain ring r held = record {
   kinds = λ h. subst (λ (c : ChainOf B). HaveKinds kind (boxes_in c)) (sym chain) h;
   planned = λ p used. planned-as Record filters _ _ old.path new.path device (ap plan_in chain) r.settings (p (held used));
@@ -116,7 +117,7 @@ safe-at filters channel p = subst (λ (plan : PlanSeen). RecordIsSafe (rate_in_p
 -- and so a channel's that may be free
 pub safe-served : {B : Type 0} (filters : Filters) (channel : RecordChannelOf B) → IsRecordServed filters channel → RecordIsSafe (record_rate_at (seen filters channel.path.device) channel.book) channel.book
 safe-served filters channel served =
-    elim (cases_Bool (is_record_free channel.book.state)) [
+    elim (cases_Bool (is_unheld channel.book.state)) [
       | inl free ↦ safe-any (path_rate channel.path) (record_rate_at (seen filters channel.path.device) channel.book) channel.book free channel.safe
       | inr used ↦ safe-at filters channel (served used)
     ]
@@ -134,7 +135,7 @@ book-asked filters request old turn p asked =
     let device : DeviceSeen = seen filters old.path.device in
     let book : RecordBook = old.book in
     let is : turn.book ≡ (record_ask request book).book = ap (λ (t : Turn RecordBook). t.book) asked in
-    let same : is_record_setup book.state ≡ false → record_rate_at device turn.book ≡ record_rate_at device book =
+    let same : is_in_setup book.state ≡ false → record_rate_at device turn.book ≡ record_rate_at device book =
     λ e. ap (λ (s : Settings). record_rate_between device s) (ap (λ (b : RecordBook). b.opening.settings) is ∙ record-ask-settings request book e) in
     let leaves = record-ask-leaves (record_rate_at device book) request book (safe-served filters old p) in
     record {

@@ -14,7 +14,7 @@ use Rattle.pcm_chain.specs.Pushes.{HasRecorded}
 use Rattle.pcm_path.specs.Paths.{IsEmpty}
 use Rattle.pcm_desk.specs.declared.record_book.RecordBook.{RecordBook}
 use Rattle.pcm_desk.specs.Device.{DeviceSeen}
-use Rattle.pcm_desk.specs.RecordBooks.{is_record_free}
+use Rattle.pcm_desk.specs.RunStates.{is_unheld}
 use Rattle.pcm_desk.specs.RecordSafe.{IsRecordUnstarted}
 use Rattle.pcm_sound.specs.Given.{recorded_bytes}
 use Rattle.pcm_record.specs.declared.channel.RecordChannelOf.{RecordChannelOf}
@@ -57,7 +57,7 @@ reads-count count old new is = record {
 
 -- a channel of which `count` bytes were read stands for the same bytes
 pub stands-read : {B : Type 0} (kept : B → Kept) (filters : Filters) (old new : RecordChannelOf B) (count : ℕ) (bytes : List ℕ) (frames : List Frame) → new.path.chain ≡ old.path.chain → new.path.ring.bytes ≡ drop count old.path.ring.bytes → Reads count old.book new.book
-    → (is_record_free new.book.state ≡ false → is_record_free old.book.state ≡ false) → RecordStands kept filters old old.book bytes frames → RecordStands kept filters new new.book bytes frames
+    → (is_unheld new.book.state ≡ false → is_unheld old.book.state ≡ false) → RecordStands kept filters old old.book bytes frames → RecordStands kept filters new new.book bytes frames
 stands-read {B = B} kept filters old new count bytes frames chain ring r held s = record {
   book_is = refl;
   count = s.count ∙ sym r.kept;

@@ -18,7 +18,8 @@ use Rattle.pcm_desk.specs.declared.device.Device.{Device}
 use Rattle.pcm_desk.specs.Device.{seen}
 use Rattle.pcm_desk.specs.Channels.{record_rate_at}
 use Rattle.pcm_desk.specs.Desk.{record_unopened}
-use Rattle.pcm_desk.specs.RecordBooks.{is_record_free, keeping}
+use Rattle.pcm_desk.specs.RunStates.{is_unheld}
+use Rattle.pcm_desk.specs.RecordBooks.{keeping}
 use Rattle.pcm_sound.specs.Given.{recorded_bytes}
 use Rattle.pcm_oss.specs.declared.event.Way.TheVariants.{Record}
 use Rattle.pcm_path.specs.Paths.{HasBoxes, IsPlanned}
@@ -34,7 +35,7 @@ IsRecordPlanned filters channel = IsPlanned Record filters channel.book.opening.
 
 -- the same of a channel that isn't free; of a free one nothing is said
 abbrev pub IsRecordServed : {B : Type 0} → Filters → RecordChannelOf B → Type 0
-IsRecordServed filters channel = is_record_free channel.book.state ≡ false → IsRecordPlanned filters channel
+IsRecordServed filters channel = is_unheld channel.book.state ≡ false → IsRecordPlanned filters channel
 
 -- A channel stands for a book, all bytes that were kept since the start, and all frames of the device that were captured since:
 -- the bytes that were not read wait in the ring, and the chain has eaten the frames and given all that they allow. Of a free one's
@@ -45,7 +46,7 @@ pub record RecordStands {B : Type 0} (kept : B → Kept) (filters : Filters) (ch
   pub ring_is : channel.path.ring.bytes ≡ unread_of book bytes
   pub captured : length frames ≡ book.captured
   pub bits : HaveBits 32 frames
-  pub records : is_record_free book.state ≡ false → HasRecorded kept filters channel.path.chain frames
+  pub records : is_unheld book.state ≡ false → HasRecorded kept filters channel.path.chain frames
 
 -- a channel stands for its book, some bytes and some frames
 pub record RecordStandsForSome {B : Type 0} (kept : B → Kept) (filters : Filters) (channel : RecordChannelOf B) : Type 0 where

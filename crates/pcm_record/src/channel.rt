@@ -9,7 +9,8 @@ ghost use Rattle.pcm_feeder.specs.Racks.{IsRack};
 ghost use Rattle.pcm_chain.specs.Chains.{HasRack};
 ghost use Rattle.pcm_desk.specs.declared.limits.TheConstants.{RING_FRAMES};
 ghost use Rattle.pcm_desk.specs.Device.{HasRates, seen};
-ghost use Rattle.pcm_desk.specs.RecordBooks.{closed, is_record_free, is_record_setup, read_turn, record_begun, record_fill_of};
+ghost use Rattle.pcm_desk.specs.RunStates.{is_unheld, is_in_setup};
+ghost use Rattle.pcm_desk.specs.RecordBooks.{closed, read_turn, record_begun, record_fill_of};
 ghost use Rattle.pcm_desk.specs.RecordRequests.{record_ask};
 ghost use Rattle.pcm_desk.specs.RecordSafe.{RecordIsSafe};
 ghost use Rattle.pcm_desk.proofs.Props.{record_props};
@@ -17,7 +18,7 @@ ghost use Rattle.pcm_path.specs.Paths.{path_rate, HasBoxes, Serves};
 ghost use Rattle.std.proofs.Props.{props};
 ghost use Rattle.pcm_desk.specs.Channels.{capturing};
 
-use pcm_desk::{Device, RecordBook, RecordState};
+use pcm_desk::{Device, RecordBook, RunState};
 use pcm_feeder::{Feeder, RackOf, Tables};
 use pcm_format::Settings;
 use pcm_oss::{Answer, Errno, Request, Way};
@@ -53,7 +54,7 @@ impl<B: Feeder> RecordChannelOf<B> {
     {
         let mut path = PathOf::new(alloc, device, rack)?;
         let book = RecordBook {
-            state: RecordState::Free,
+            state: RunState::Free,
             ..RecordBook::begun(device.settings)
         };
         path.begin(Way::Record, tables, &book.opening);
@@ -62,14 +63,14 @@ impl<B: Feeder> RecordChannelOf<B> {
 
     /// Whether nobody has the channel.
     pub fn is_free(&self) -> bool
-        ensures { result ≡ is_record_free self.now.book.state }
+        ensures { result ≡ is_unheld self.now.book.state }
     {
         self.book.is_free()
     }
 
     /// Whether the channel is open, and nothing of a recording is there.
     pub fn is_at_rest(&self) -> bool
-        ensures { result ≡ is_record_setup self.now.book.state }
+        ensures { result ≡ is_in_setup self.now.book.state }
     {
         self.book.is_setup()
     }

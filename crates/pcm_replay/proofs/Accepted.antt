@@ -11,7 +11,7 @@ use Rattle.pcm_replay.specs.Accepted.{AsksFor, LeavesAll}
 use Rattle.pcm_replay.specs.Calls.{Call}
 use Rattle.pcm_replay.specs.Endings.{DoesWords, HasRun}
 use Rattle.pcm_replay.specs.Outcomes.{IsAccepted, Spells}
-use Rattle.pcm_converting.specs.Written.{WritesAll}
+use Rattle.pcm_convert_command.specs.Written.{WritesAll}
 use Rattle.pcm_replay.proofs.Doing.{verdict-of}
 
 -- the number of a soak says all

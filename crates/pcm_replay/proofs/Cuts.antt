@@ -10,8 +10,8 @@ use Rattle.pcm_verdict.specs.Verdict.{Accepted, Runs, Checks, Converts, Soaks}
 use Rattle.pcm_replay.specs.Cuts.{CutsCall, CutsRun, RunAtCreate, RunInBytes, RunInHeader, RunInLine}
 use Rattle.pcm_replay.specs.Playback.{Playback, bytes_until, lines_until, playback_of}
 use Rattle.pcm_inputs.specs.Reads.{OnlyHasRead}
-use Rattle.pcm_converting.specs.Written.{AtAppend, AtCreate, AtPut, CutAtAppend, CutAtCreate, CutsOutput, HasWritten, WritesAll, WritesFile}
-use Rattle.pcm_converting.proofs.Appending.{rose_later}
+use Rattle.pcm_convert_command.specs.Written.{AtAppend, AtCreate, AtPut, CutAtAppend, CutAtCreate, CutsOutput, HasWritten, WritesAll, WritesFile}
+use Rattle.pcm_convert_command.proofs.Appending.{rose_later}
 
 -- what a read leaves alone, and then a write changes
 pub has_written_later : (name bytes : List ℕ) (old read new : FilesSeen) → OnlyReads old read → HasWritten name bytes read new → HasWritten name bytes old new

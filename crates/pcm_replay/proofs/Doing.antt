@@ -21,7 +21,7 @@ use Rattle.pcm_replay.specs.Cuts.{CutsCall}
 use Rattle.pcm_inputs.specs.Outside.{Outside, outside}
 use Rattle.pcm_inputs.specs.Parts.{conversion_part, inputs_part}
 use Rattle.pcm_inputs.specs.Reads.{Comes, Ends, OnlyHasRead, Part}
-use Rattle.pcm_converting.specs.Written.{AtPut, CutsOutput, EndsOutput, WritesAll}
+use Rattle.pcm_convert_command.specs.Written.{AtPut, CutsOutput, EndsOutput, WritesAll}
 use Rattle.pcm_replay.proofs.Cuts.{cut-later, written-later}
 use Rattle.pcm_inputs.proofs.Parts.{LeadsTo, comes-next, ends-as, leads-first, reads-nothing}
 

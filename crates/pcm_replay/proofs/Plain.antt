@@ -13,7 +13,7 @@ use Rattle.pcm_verdict.specs.Verdict.{Inputs}
 use Rattle.pcm_verdict.proofs.Accepted.{IsPlayable, accepted-playable}
 use Rattle.pcm_replay.specs.Accepted.{LeavesAlike, LeavesPlain, LeavesRun}
 use Rattle.pcm_replay.specs.Calls.{Call}
-use Rattle.pcm_converting.specs.Written.{WritesAll}
+use Rattle.pcm_convert_command.specs.Written.{WritesAll}
 
 -- the story of what is playable is valid
 valid-playable : (inputs : Inputs) → IsPlayable inputs → StoryIsValid (device_seen inputs.config) (story_in inputs)

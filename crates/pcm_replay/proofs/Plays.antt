@@ -1,6 +1,6 @@
 -- A run by one event more.
 use Rattle.std.proofs.Common.{◌≡◌, ℕ, zero, suc, ◌+◌, ◌*◌, max, List, [], ◌∷◌, ◌++◌, ◌<◌, ◌≤◌, fold, slice_index_or, length, take, refl, sym, ◌∙◌, ap, subst, arith, append_assoc, append-nil, length-take-le}
-use Rattle.pcm_fixed.specs.Fixed.{fixed_len}
+use Rattle.pcm_sequence.specs.Fixed.{fixed_len}
 use Rattle.std.proofs.Math.Nat.{mul-le-mul_right}
 use Rattle.std.proofs.lemmas.List.{take_more}
 use Rattle.pcm_oss.specs.declared.event.Event.{Event}
@@ -19,7 +19,7 @@ use Rattle.pcm_report.specs.Lines.{reply_line}
 use Rattle.pcm_verdict.specs.Transcript.{lines_from, transcript}
 use Rattle.pcm_replay.specs.declared.replay.ReplayOf.{ReplayOf}
 use Rattle.pcm_replay.specs.Playback.{playback}
-use Rattle.pcm_soaking.proofs.Running.{handed-more, length-replies, replies-more}
+use Rattle.pcm_soak_command.proofs.Running.{handed-more, length-replies, replies-more}
 use Rattle.pcm_replay.specs.Playing.{HasPlayed, greatest_taken}
 use Rattle.pcm_replay.specs.Turns.{IsNext}
 

@@ -9,7 +9,7 @@ use Rattle.pcm_replay.specs.Cuts.{CutsCall}
 use Rattle.pcm_replay.specs.Calls.{Call}
 use Rattle.pcm_replay.specs.Outcomes.{FailsAtSink, InFaultLine, InForms, InOutput, IsCut, OnlyPutFails}
 use Rattle.pcm_inputs.specs.Outside.{Outside}
-use Rattle.pcm_converting.specs.Written.{AtAppend, AtCreate, AtPut, CutsOutput, WritesFile}
+use Rattle.pcm_convert_command.specs.Written.{AtAppend, AtCreate, AtPut, CutsOutput, WritesFile}
 use Rattle.pcm_inputs.proofs.Parts.{reads-nothing}
 
 -- what was to be left has no file

@@ -30,7 +30,7 @@ use Rattle.pcm_inputs.specs.Faults.{ending_of, ending_status}
 use Rattle.pcm_replay.specs.Calls.{Call}
 use Rattle.pcm_replay.specs.Outcomes.{MayEnd, MayRefuse, RefusesFile, Spells, verdict_of, verdict_on}
 use Rattle.pcm_inputs.specs.Outside.{NoneRose, Outside}
-use Rattle.pcm_converting.specs.Written.{WritesFile}
+use Rattle.pcm_convert_command.specs.Written.{WritesFile}
 
 -- ---- one status for each ending
 

@@ -20,8 +20,8 @@ use Rattle.pcm_verdict.specs.Verdict.{Inputs}
 use Rattle.pcm_replay.specs.declared.replay.ReplayOf.{ReplayOf}
 use Rattle.pcm_replay.specs.Playing.{HasPlayed, output_played}
 use Rattle.pcm_replay.specs.Turns.{CutsEvents, CutsTurn, TurnInBytes, TurnInLine, IsNext, OnlyAdds, WritesFirst, WritesNext}
-use Rattle.pcm_converting.specs.Written.{HasWritten, WritesAll}
-use Rattle.pcm_converting.proofs.Appending.{appends-on, appends-only, grows-on, grows-nothing, has_written, rose_later}
+use Rattle.pcm_convert_command.specs.Written.{HasWritten, WritesAll}
+use Rattle.pcm_convert_command.proofs.Appending.{appends-on, appends-only, grows-on, grows-nothing, has_written, rose_later}
 
 -- ---- lines that were put
 

@@ -8,7 +8,7 @@ use Rattle.pcm_inputs.specs.declared.ending.Ending.{Ending}
 use Rattle.pcm_inputs.specs.declared.ending.Ending.TheVariants.{CannotRead, CannotWrite}
 use Rattle.pcm_inputs.specs.Faults.{ending_status}
 use Rattle.pcm_inputs.specs.Outside.{Outside, WriteRose}
-use Rattle.pcm_converting.specs.Written.{AtAppend, AtCreate, AtPut, CutsOutput}
+use Rattle.pcm_convert_command.specs.Written.{AtAppend, AtCreate, AtPut, CutsOutput}
 use Rattle.pcm_feeder.specs.declared.kind.Kind.{Kind}
 use Rattle.pcm_feeder.specs.Kept.{Kept}
 use Rattle.pcm_replay.specs.Calls.{Call}

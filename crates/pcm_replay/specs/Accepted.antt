@@ -11,10 +11,10 @@ use Rattle.pcm_verdict.specs.Plain.{IsAcceptedRun, PlayAlike, plain_output, stor
 use Rattle.pcm_verdict.specs.Verdict.{Accepted, Checks, Conversion, Converts, Inputs, Runs, Soaks}
 use Rattle.pcm_inputs.specs.Outside.{Lent}
 use Rattle.pcm_replay.specs.Calls.{Call, Words, texts}
-use Rattle.pcm_soaking.specs.Soaking.{RanSoak}
+use Rattle.pcm_soak_command.specs.Soaking.{RanSoak}
 use Rattle.pcm_replay.specs.Endings.{Does, RanInputs}
 use Rattle.pcm_replay.specs.Outcomes.{IsAccepted}
-use Rattle.pcm_converting.specs.Written.{WritesAll, WritesWhole}
+use Rattle.pcm_convert_command.specs.Written.{WritesAll, WritesWhole}
 
 -- The words of a soak say all. What other words ask for is what the files tell.
 abbrev pub AsksFor : Call → Accepted → Type 0

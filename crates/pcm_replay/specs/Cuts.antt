@@ -8,7 +8,7 @@ use Rattle.pcm_verdict.specs.Verdict.{Accepted, Runs, Checks, Converts, Soaks}
 use Rattle.pcm_inputs.specs.Outside.{Outside}
 use Rattle.pcm_replay.specs.Playback.{Playback, bytes_until, lines_until, playback_of}
 use Rattle.pcm_replay.specs.Turns.{IsNext}
-use Rattle.pcm_converting.specs.Written.{CutAtAppend, CutAtCreate, CutsOutput, HasWritten, WritesWhole}
+use Rattle.pcm_convert_command.specs.Written.{CutAtAppend, CutAtCreate, CutsOutput, HasWritten, WritesWhole}
 
 -- where a run was cut short: after `done` events, in what the next one gives, of which a part was written
 pub record CutPlace (playback : Playback) : Type 0 where

@@ -11,13 +11,13 @@ use Rattle.pcm_inputs.specs.declared.ending.Ending.{Ending}
 use Rattle.pcm_inputs.specs.declared.ending.Ending.TheVariants.{Usage, CannotRead, BadConfig, BadScript, BadWave, CannotWrite, NoMemory}
 use Rattle.pcm_inputs.specs.Commands.{IsOf}
 use Rattle.pcm_inputs.specs.Outside.{Lent, Outside}
-use Rattle.pcm_soaking.specs.Running.{RanThrough}
-use Rattle.pcm_soaking.specs.Soaking.{RanSoak}
+use Rattle.pcm_soak_command.specs.Running.{RanThrough}
+use Rattle.pcm_soak_command.specs.Soaking.{RanSoak}
 use Rattle.pcm_replay.specs.Calls.{Call}
 use Rattle.pcm_replay.specs.Cuts.{CutsCall}
 use Rattle.pcm_replay.specs.Outcomes.{CannotReadOne, IsCut, LacksMemory, RefusesConfig, RefusesScript, RefusesWave, RefusesWords, Spells, command_part}
 use Rattle.pcm_inputs.specs.Reads.{Comes, CutsLine, FailsToReadOne, Lacks, RefusesPart}
-use Rattle.pcm_converting.specs.Written.{WritesAll}
+use Rattle.pcm_convert_command.specs.Written.{WritesAll}
 
 -- what a call did that ended early
 abbrev pub EndsCall : Call → Ending → Type 0

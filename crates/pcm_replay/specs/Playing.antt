@@ -1,6 +1,6 @@
 -- How far a run has come: what its engine stands for, and what it is to leave.
 use Rattle.std.specs.Prelude.{◌≡◌, ℕ, ◌*◌, max, List, ◌++◌, take, fold, Some}
-use Rattle.pcm_fixed.specs.Fixed.{fixed_len}
+use Rattle.pcm_sequence.specs.Fixed.{fixed_len}
 use Rattle.pcm_oss.specs.declared.event.Event.{Event}
 use Rattle.pcm_wave.specs.declared.pool.Pool.{Pool}
 use Rattle.pcm_desk.specs.Device.{device_frame_bytes}
@@ -12,7 +12,7 @@ use Rattle.pcm_engine.specs.Engines.{device_of}
 use Rattle.pcm_report.specs.declared.line.TheConstants.{LINE_BYTES}
 use Rattle.pcm_verdict.specs.Outputs.{Output}
 use Rattle.pcm_verdict.specs.Transcript.{transcript}
-use Rattle.pcm_soaking.specs.Running.{RanThrough}
+use Rattle.pcm_soak_command.specs.Running.{RanThrough}
 use Rattle.pcm_replay.specs.Playback.{Playback}
 use Rattle.pcm_replay.specs.declared.replay.ReplayOf.{ReplayOf}
 

@@ -11,13 +11,13 @@ ghost use Rattle.pcm_inputs.specs.Outside.{both, ◌over◌};
 
 use crate::check::tell_script;
 use crate::running::run_script;
-use pcm_converting::convert_wave;
+use pcm_convert_command::convert_wave;
 use pcm_engine::EngineOf;
 use pcm_feeder::{Feeder, RacksOf};
 use pcm_format::Settings;
 use pcm_inputs::{Command, Ending, read_inputs, read_source};
 use pcm_outside::{Files, Sink};
-use pcm_soaking::run_soak;
+use pcm_soak_command::run_soak;
 use std::alloc::Global;
 
 /// Does what a command asks for. An engine is left of a script that was run.

@@ -6,10 +6,10 @@ ghost use Rattle.pcm_engine.specs.Engines.{device_of};
 ghost use Rattle.pcm_replay.specs.Cuts.{CutsRun};
 ghost use Rattle.pcm_inputs.specs.Outside.{both, ◌over◌};
 ghost use Rattle.pcm_replay.specs.Playback.{playback};
-ghost use Rattle.pcm_soaking.specs.Running.{CanRun};
+ghost use Rattle.pcm_soak_command.specs.Running.{CanRun};
 ghost use Rattle.pcm_replay.specs.Playing.{HasPlayed, output_played};
 ghost use Rattle.pcm_replay.specs.Turns.{CutsEvents, WritesFirst};
-ghost use Rattle.pcm_converting.specs.Written.{WritesAll};
+ghost use Rattle.pcm_convert_command.specs.Written.{WritesAll};
 
 use crate::replay::ReplayOf;
 use crate::writing::append_some;

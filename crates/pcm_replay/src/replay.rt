@@ -1,14 +1,14 @@
 //! The engine of a run, with the room for what one event gives.
 
 ghost use Rattle.std.specs.Prelude.{◌≡◌, ◌+◌, ◌<◌, ◌≤◌, IfOk, IsTrue, OnErr, OnOk, length, take};
-ghost use Rattle.pcm_fixed.specs.Fixed.{fixed_items, fixed_len};
+ghost use Rattle.pcm_sequence.specs.Fixed.{fixed_items, fixed_len};
 ghost use Rattle.pcm_wave.specs.declared.pool.Pool.{Pool};
 ghost use Rattle.pcm_desk.specs.declared.limits.TheConstants.{EVENTS};
 ghost use Rattle.pcm_desk.specs.Device.{IsInLimits, seen};
 ghost use Rattle.pcm_feeder.specs.Racks.{AreRacks, list_of};
 ghost use Rattle.pcm_engine.specs.Engines.{device_of};
 ghost use Rattle.pcm_replay.specs.Playback.{playback};
-ghost use Rattle.pcm_soaking.specs.Running.{CanRun};
+ghost use Rattle.pcm_soak_command.specs.Running.{CanRun};
 ghost use Rattle.pcm_replay.specs.Playing.{HasPlayed, greatest_taken};
 ghost use Rattle.pcm_inputs.specs.Outside.{both, ◌over◌};
 ghost use Rattle.pcm_replay.specs.Turns.{CutsNext, IsNext, OnlyAdds, WritesNext};
@@ -17,10 +17,10 @@ use crate::writing::write_turn;
 use pcm_desk::Device;
 use pcm_engine::EngineOf;
 use pcm_feeder::{Feeder, RacksOf, Tables};
-use pcm_fixed::Fixed;
 use pcm_oss::{Event, ReplyBuf};
 use pcm_outside::{Files, Sink, WriteFault};
 use pcm_report::{LINE_BYTES, write_line};
+use pcm_sequence::Fixed;
 use pcm_wave::Pool;
 use std::alloc::{AllocError, Global};
 

@@ -3,13 +3,10 @@
 ghost use Rattle.std.specs.Prelude.{◌≡◌, ◌≢◌, IfErr, IfOk};
 ghost use Rattle.pcm_feeder.specs.Racks.{AreRacks, list_of};
 ghost use Rattle.pcm_inputs.specs.Outside.{NoneRose, WriteRose, both, ◌over◌};
-ghost use Rattle.pcm_replay.specs.Accepted.{LeavesAlike, LeavesCheck, LeavesPlain, LeavesRun, LeavesSoak, LeavesWave};
-ghost use Rattle.pcm_replay.specs.Accepted.{RunsEngine, SoaksEngine};
+ghost use Rattle.pcm_replay.specs.Accepted.{LeavesAlike, LeavesCheck, LeavesPlain, LeavesRun, LeavesSoak, LeavesWave, RunsEngine, SoaksEngine};
 ghost use Rattle.pcm_replay.specs.Calls.{call};
 ghost use Rattle.pcm_replay.specs.Endings.{DoesWords, EndsCall, Finishes};
-ghost use Rattle.pcm_replay.specs.Outcomes.{CannotReadOne, EndsFormless, EndsUnfailing, FailsAtLine, FailsAtSink};
-ghost use Rattle.pcm_replay.specs.Outcomes.{IsCut, IsStatus, LacksMemory, MayEndAs, RefusesConfig, RefusesScript};
-ghost use Rattle.pcm_replay.specs.Outcomes.{RefusesWave, RefusesWords, WasAccepted};
+ghost use Rattle.pcm_replay.specs.Outcomes.{CannotReadOne, EndsFormless, EndsUnfailing, FailsAtLine, FailsAtSink, IsCut, IsStatus, LacksMemory, MayEndAs, RefusesConfig, RefusesScript, RefusesWave, RefusesWords, WasAccepted};
 
 use crate::commands::do_command;
 use crate::refusals::refuse_words;

@@ -4,7 +4,7 @@ use Rattle.std.specs.List.{range_with_len}
 use Rattle.std.proofs.lemmas.Simd.{map-map}
 use Rattle.pcm_format.specs.Frames.{Frame}
 use Rattle.pcm_plan.specs.Through.{recs}
-use Rattle.pcm_desk.specs.Device.{DeviceSeen, device_settings, filters_of, full_frame, is_straight, mixed_for, parent_plan, ring_frames}
+use Rattle.pcm_desk.specs.Device.{DeviceSeen, device_settings, device_filters, full_frame, is_straight, mixed_for, parent_plan, ring_frames}
 use Rattle.pcm_desk.proofs.Straight.{straight-count, straight-mixed}
 use Rattle.pcm_sound.specs.DeviceList.{device_list, mix_at, silence_in}
 use Rattle.pcm_sound.specs.Gains.{Faders}
@@ -20,6 +20,6 @@ device_list-straight device faders table handed straight =
     let silent : List Frame = replicate (ring_frames device) (silence_in (device_settings device)) in
     let enough : 0 + handed ≤ count = omega (arith, straight-count device handed straight) in
     ap (λ (made : List Frame). silent ++ made)
-    (ap (λ (mixed : List Frame). recs (parent_plan device) (filters_of device) mixed 0 handed)
+    (ap (λ (mixed : List Frame). recs (parent_plan device) (device_filters device) mixed 0 handed)
     (sym (map-map (full_frame device) mix (range_with_len 0 count)))
     ∙ straight-mixed device mix count 0 handed straight enough)

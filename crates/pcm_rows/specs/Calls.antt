@@ -28,11 +28,11 @@ use Rattle.pcm_rows.specs.Stages.{half_right}
 
 -- a ring of four frames, where a row looks at single frames
 abbrev pub small_device : DeviceSeen
-small_device = record { settings = usual_settings; mix = usual_settings; slots = 4; recorders = 4; maps = 0; ring = 4; block = 2; quality = 1; filters = no_filters }
+small_device = record { device_settings = usual_settings; mix_settings = usual_settings; play_slots = 4; record_slots = 4; map_slots = 0; ring_frames = 4; block_frames = 2; device_quality = 1; device_filters = no_filters }
 
 -- a device that mixes and hands over in these settings
 abbrev pub device_in : Settings → DeviceSeen → DeviceSeen
-device_in settings device = record device { settings = settings; mix = settings }
+device_in settings device = record device { device_settings = settings; mix_settings = settings }
 
 -- an open with the settings of the device
 abbrev pub opens : ℕ → Event

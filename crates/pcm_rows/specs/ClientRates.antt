@@ -129,7 +129,7 @@ wide_book written eaten given last underruns = record (book_in wide_settings Run
 
 -- a device of one channel of 32 bits, whose filter doubles rates with two taps
 abbrev pub filtered_device : DeviceSeen
-filtered_device = record (device_in (record { format = S32Le; layout = One; rate = 48000 }) usual_device) { quality = 2; filters = two_taps }
+filtered_device = record (device_in (record { format = S32Le; layout = One; rate = 48000 }) usual_device) { device_quality = 2; device_filters = two_taps }
 
 -- half its rate
 abbrev pub filtered_settings : Settings
@@ -137,7 +137,7 @@ filtered_settings = record { format = S32Le; layout = One; rate = 24000 }
 
 -- what a plan at some quality gives it
 abbrev pub filtered_plan : ℕ → PlanSeen
-filtered_plan quality = play_plan_between (record filtered_device { quality = quality }) filtered_settings
+filtered_plan quality = play_plan_between (record filtered_device { device_quality = quality }) filtered_settings
 
 -- two frames: -3 and 4
 abbrev pub filtered_text : List ℕ
@@ -170,7 +170,7 @@ filtered_book = record (book_in filtered_settings Setup 0 0 0) { done = 8; last 
 
 -- a device of eight channels over a ring of four frames, whose filter has 64 taps
 abbrev pub ahead_device : DeviceSeen
-ahead_device = record (device_in (record wide_settings { rate = 48000 }) small_device) { quality = 2; filters = sixty_four_taps }
+ahead_device = record (device_in (record wide_settings { rate = 48000 }) small_device) { device_quality = 2; device_filters = sixty_four_taps }
 
 -- a frame of eight channels: 256, 257 and so on
 abbrev pub ahead_frame : List ℕ

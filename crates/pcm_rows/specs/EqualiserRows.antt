@@ -65,7 +65,7 @@ one_channel = record { format = S32Le; layout = One; rate = 48000 }
 
 -- a device of one channel of 32 bits, with a section
 abbrev pub equalised : Section → DeviceSeen
-equalised section = record (device_in one_channel usual_device) { filters = sections_alone (section ∷ []) }
+equalised section = record (device_in one_channel usual_device) { device_filters = sections_alone (section ∷ []) }
 
 -- three frames of one byte each
 abbrev pub three_frames : ℕ → ℕ → ℕ → List ℕ

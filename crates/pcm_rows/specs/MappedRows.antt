@@ -12,8 +12,8 @@ use Rattle.pcm_oss.specs.declared.reply.Errno.TheVariants.{Busy, Inval}
 use Rattle.pcm_oss.specs.declared.request.Request.{Request}
 use Rattle.pcm_oss.specs.declared.request.Request.TheVariants.{GetError, GetIPtr, GetISpace, GetODelay, GetOPtr, GetOSpace, GetTrigger, Halt, Post, SetFmt, SetFragment, SetTrigger, Speed, Sync}
 use Rattle.pcm_desk.specs.declared.map_book.MapBook.{MapBook}
-use Rattle.pcm_desk.specs.declared.map_book.MapState.{MapState}
-use Rattle.pcm_desk.specs.declared.map_book.MapState.TheVariants.{Running}
+use Rattle.pcm_desk.specs.declared.run_state.RunState.{RunState}
+use Rattle.pcm_desk.specs.declared.run_state.RunState.TheVariants.{Running}
 use Rattle.pcm_desk.specs.Device.{DeviceSeen}
 use Rattle.pcm_desk.specs.MapRequests.{map_ask}
 use Rattle.pcm_desk.specs.Usual.{usual_device, usual_settings}
@@ -23,11 +23,11 @@ use Rattle.pcm_rows.specs.Calls.{joined, piece, small_device, stereo_bytes}
 
 -- one channel that plays, and one with a mapped area
 abbrev pub mapped_device : DeviceSeen
-mapped_device = record usual_device { slots = 1; maps = 1 }
+mapped_device = record usual_device { play_slots = 1; map_slots = 1 }
 
 -- the same on a ring of four frames
 abbrev pub small_mapped : DeviceSeen
-small_mapped = record small_device { slots = 1; maps = 1 }
+small_mapped = record small_device { play_slots = 1; map_slots = 1 }
 
 -- an opening with an area of two fragments of 16 bytes, which are eight frames
 abbrev pub maps_at : ℕ → List Event
@@ -132,7 +132,7 @@ recut_script = record {
 
 -- two mapped channels on a ring of four frames
 abbrev pub two_mapped : DeviceSeen
-two_mapped = record small_mapped { maps = 2 }
+two_mapped = record small_mapped { map_slots = 2 }
 
 -- of two clients the second pokes two frames, one where the first pokes its own, and closes
 abbrev pub crowded_script : Script
@@ -159,7 +159,7 @@ its_pokes = [] ∷ [] ∷ stereo_bytes (2 ∷ []) ∷ [] ∷ []
 -- ---- what is asked of a mapped channel
 
 -- a book of such an opening: ten frames were taken, and the last answer was four frames
-abbrev pub mapped_book : MapState → MapBook
+abbrev pub mapped_book : RunState → MapBook
 mapped_book state = record {
   opening = record { settings = usual_settings; fragments = record { log = 4; count = 2 }; trigger = true; told = 16 };
   volume = 0x6464;

@@ -37,7 +37,7 @@ use Rattle.pcm_rows.specs.Requests.{asks}
 
 -- two channels at 48000 over a ring of four frames, mixed in these settings
 abbrev pub mixing_in : Settings → DeviceSeen
-mixing_in settings = record small_device { mix = settings }
+mixing_in settings = record small_device { mix_settings = settings }
 
 -- mixed at half the rate, where lines are drawn between the frames
 abbrev pub half_mixed : DeviceSeen
@@ -57,19 +57,19 @@ half_mono = sixteen_bits One 24000
 
 -- one channel of the device, mixed at half the rate
 abbrev pub line_mixed : DeviceSeen
-line_mixed = record (device_in mono_settings small_device) { mix = half_mono }
+line_mixed = record (device_in mono_settings small_device) { mix_settings = half_mono }
 
 -- the same by a filter of four taps
 abbrev pub filter_mixed : DeviceSeen
-filter_mixed = record line_mixed { quality = 2; filters = four_taps }
+filter_mixed = record line_mixed { device_quality = 2; device_filters = four_taps }
 
 -- the same by a hold
 abbrev pub hold_mixed : DeviceSeen
-hold_mixed = record line_mixed { quality = 0 }
+hold_mixed = record line_mixed { device_quality = 0 }
 
 -- half the rate again, where each client goes through a section
 abbrev pub section_mixed : DeviceSeen
-section_mixed = record half_mixed { filters = sections_alone (adding_up ∷ []) }
+section_mixed = record half_mixed { device_filters = sections_alone (adding_up ∷ []) }
 
 -- frames of one channel as a mix, which is silent past the last
 abbrev pub mix_with : List Frame → ℕ → Frame

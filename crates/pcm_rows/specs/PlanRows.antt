@@ -8,10 +8,9 @@ use Rattle.pcm_format.specs.Frames.{Frame}
 use Rattle.pcm_format.specs.Layouts.{channels_of}
 use Rattle.pcm_desk.specs.Usual.{usual_device}
 use Rattle.pcm_desk.specs.Device.{DeviceSeen}
-use Rattle.pcm_feeder.specs.Filters.{no_filters}
+use Rattle.pcm_feeder.specs.Filters.{no_filters, Filters}
 use Rattle.pcm_feeder.specs.declared.stage.Spec.{Spec}
 use Rattle.pcm_feeder.specs.declared.stage.Spec.TheVariants.{Matrix, Linear, Volume, Depth}
-use Rattle.pcm_feeder.specs.Filters.{Filters}
 use Rattle.pcm_feeder.specs.Layouts.{unity}
 use Rattle.pcm_plan.specs.Plans.{PlanSeen, plan_play}
 use Rattle.pcm_plan.specs.Through.{outs}

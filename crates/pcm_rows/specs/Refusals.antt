@@ -25,7 +25,7 @@ eight_at rate = record { format = U32Be; layout = Eight; rate = rate }
 
 -- a ring of 2 ^ 26 + 1 frames of four bytes; the device gets 2 ^ 28 bytes at most
 abbrev pub large_device : DeviceSeen
-large_device = record usual_device { ring = 67108865 }
+large_device = record usual_device { ring_frames = 67108865 }
 
 abbrev pub largest_script : Script
 largest_script = record { events = Intr 67108864 ∷ []; inline_bytes = []; device_frames = 67108864 }

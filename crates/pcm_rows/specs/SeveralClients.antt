@@ -84,7 +84,7 @@ opens_lines = joined (
 
 -- a device that one client can play on
 abbrev pub single_device : DeviceSeen
-single_device = record usual_device { slots = 1 }
+single_device = record usual_device { play_slots = 1 }
 
 -- an open while the slot's client plays, one while it drains, one once its frame was mixed, and one once that was handed over
 abbrev pub queue_events : List Event

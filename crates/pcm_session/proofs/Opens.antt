@@ -4,7 +4,7 @@ use Rattle.std.specs.Prelude.{is_some}
 use Rattle.pcm_format.specs.declared.settings.Settings.{Settings}
 use Rattle.pcm_oss.specs.declared.event.Event.TheVariants.{Open}
 use Rattle.pcm_oss.specs.declared.event.Way.{Way}
-use Rattle.pcm_numbers.specs.Devices.{◌>>=◌, stream_settings, way_from}
+use Rattle.pcm_foreign.specs.Devices.{◌>>=◌, stream_settings, way_from}
 use Rattle.pcm_session.specs.Events.{descriptor_from, event_for_open}
 
 none_of : (fd : Option ℕ) (way : Option Way) (settings : Option Settings) → is_some settings ≡ false → (fd >>= (λ f. way >>= (λ w. settings >>= (λ s. Some (Open f w s))))) ≡ None

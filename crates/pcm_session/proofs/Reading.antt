@@ -5,7 +5,7 @@ use Rattle.pcm_oss.specs.declared.event.Way.{Way}
 use Rattle.pcm_oss.specs.declared.event.Way.TheVariants.{Play, Record, Map}
 use Rattle.pcm_oss.specs.Replies.{Reply}
 use Rattle.pcm_feeder.specs.Kept.{Kept}
-use Rattle.pcm_numbers.specs.Devices.{◌>>=◌}
+use Rattle.pcm_foreign.specs.Devices.{◌>>=◌}
 use Rattle.pcm_desk.specs.declared.device.Held.{Held}
 use Rattle.pcm_desk.specs.declared.limits.TheConstants.{READ_BYTES}
 use Rattle.pcm_desk.specs.Channels.{by_way}

@@ -10,8 +10,8 @@ use Rattle.pcm_desk.specs.Device.{DeviceSeen, device_settings, ring_frames}
 use Rattle.pcm_desk.specs.Events.{bytes_handed, frames_taken}
 use Rattle.pcm_engine.specs.declared.limits.TheConstants.{LIFE}
 use Rattle.pcm_engine.specs.Brought.{IsAllowed, bytes_asked, samples_asked}
-use Rattle.pcm_numbers.specs.Devices.{is_rate}
-use Rattle.pcm_numbers.proofs.Judging.{rate-is}
+use Rattle.pcm_foreign.specs.Devices.{is_rate}
+use Rattle.pcm_foreign.proofs.Judging.{rate-is}
 use Rattle.pcm_format.specs.Layouts.{channels_of}
 use Rattle.pcm_session.specs.Taken.{has_right, is_descriptor, is_left, is_taken, is_allowed}
 

@@ -8,13 +8,13 @@ use Rattle.pcm_oss.specs.declared.reply.Answer.TheVariants.{Number}
 use Rattle.pcm_oss.specs.declared.reply.Errno.{Errno}
 use Rattle.pcm_oss.specs.declared.reply.Errno.TheVariants.{Inval}
 use Rattle.pcm_oss.specs.Replies.{Reply, bytes_due}
-use Rattle.pcm_fixed.specs.Fixed.{fixed_items}
+use Rattle.pcm_sequence.specs.Fixed.{fixed_items}
 use Rattle.pcm_feeder.specs.Kept.{Kept}
-use Rattle.pcm_numbers.specs.Answers.{answer_numbers, call_fault_number, refusal_number}
-use Rattle.pcm_numbers.specs.declared.answers.AnswerNumbers.{AnswerNumbers}
-use Rattle.pcm_numbers.specs.declared.call_fault.CallFault.{CallFault}
-use Rattle.pcm_numbers.specs.declared.call_fault.CallFault.TheVariants.{Argument}
-use Rattle.pcm_numbers.specs.Devices.{stream_settings}
+use Rattle.pcm_foreign.specs.Answers.{answer_numbers, call_fault_number, refusal_number}
+use Rattle.pcm_foreign.specs.declared.answers.AnswerNumbers.{AnswerNumbers}
+use Rattle.pcm_foreign.specs.declared.call_fault.CallFault.{CallFault}
+use Rattle.pcm_foreign.specs.declared.call_fault.CallFault.TheVariants.{Argument}
+use Rattle.pcm_foreign.specs.Devices.{stream_settings}
 use Rattle.pcm_desk.specs.Events.{bytes_handed}
 use Rattle.pcm_engine.specs.declared.engine.EngineOf.{EngineOf}
 use Rattle.pcm_engine.specs.Engines.{device_of}

@@ -4,8 +4,8 @@ use Rattle.pcm_oss.specs.declared.event.Event.{Event}
 use Rattle.pcm_oss.specs.declared.event.Event.TheVariants.{Open, Write, Poke, Read, Ioctl, Join, StartGroup, Close, Mixer}
 use Rattle.pcm_wave.specs.declared.pool.Source.TheVariants.{Inline}
 use Rattle.pcm_desk.specs.declared.limits.TheConstants.{DESCRIPTORS, READ_BYTES}
-use Rattle.pcm_numbers.specs.Devices.{◌>>=◌, stream_settings, way_from}
-use Rattle.pcm_numbers.specs.Requests.{mix_request_from, request_from}
+use Rattle.pcm_foreign.specs.Devices.{◌>>=◌, stream_settings, way_from}
+use Rattle.pcm_foreign.specs.Requests.{mix_request_from, request_from}
 
 abbrev pub descriptor_from : ℕ → Option ℕ
 descriptor_from fd = if nat_lt fd DESCRIPTORS then Some fd else None

@@ -13,14 +13,14 @@ use Rattle.pcm_oss.specs.declared.request.Request.{Request}
 use Rattle.pcm_desk.specs.declared.limits.TheConstants.{DESCRIPTORS}
 use Rattle.pcm_desk.specs.Device.{DeviceSeen, map_slots, play_slots, record_slots}
 use Rattle.pcm_desk.specs.Desk.{Desk, held_by}
-use Rattle.pcm_numbers.specs.Answers.{answer_numbers, call_fault_number, refusal_number}
-use Rattle.pcm_numbers.specs.declared.answers.AnswerNumbers.{AnswerNumbers}
-use Rattle.pcm_numbers.specs.declared.call_fault.CallFault.TheVariants.{Argument}
-use Rattle.pcm_numbers.specs.Devices.{way_from}
-use Rattle.pcm_numbers.specs.Requests.{request_from}
+use Rattle.pcm_foreign.specs.Answers.{answer_numbers, call_fault_number, refusal_number}
+use Rattle.pcm_foreign.specs.declared.answers.AnswerNumbers.{AnswerNumbers}
+use Rattle.pcm_foreign.specs.declared.call_fault.CallFault.TheVariants.{Argument}
+use Rattle.pcm_foreign.specs.Devices.{way_from}
+use Rattle.pcm_foreign.specs.Requests.{request_from}
 use Rattle.pcm_status.specs.declared.status.ChannelStatus.{ChannelStatus}
-use Rattle.pcm_status.specs.declared.status.RunState.{RunState}
-use Rattle.pcm_status.specs.declared.status.RunState.TheVariants.{Setup, Primed, Running, Draining}
+use Rattle.pcm_status.specs.declared.status.RunStatus.{RunStatus}
+use Rattle.pcm_status.specs.declared.status.RunStatus.TheVariants.{Setup, Primed, Running, Draining}
 use Rattle.pcm_status.specs.declared.status.SlotState.{SlotState}
 use Rattle.pcm_status.specs.declared.status.SlotState.TheVariants.{Free, Held, Closing}
 use Rattle.pcm_status.specs.declared.status.SlotStatus.{SlotStatus}
@@ -36,7 +36,7 @@ way_number Play = 0
 way_number Record = 1
 way_number Map = 2
 
-abbrev pub run_number : RunState → ℕ
+abbrev pub run_number : RunStatus → ℕ
 run_number Setup = 0
 run_number Primed = 1
 run_number Running = 2

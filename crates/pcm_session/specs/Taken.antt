@@ -1,6 +1,6 @@
 -- Which calls a session takes: those that its engine can.
 use Rattle.std.specs.Prelude.{ℕ, ◌+◌, ◌-◌, ◌*◌, ◌%◌, Bool, true, not, ◌&&◌, ◌==◌, nat_le, nat_lt, if◌then◌else◌, Option, None, Some}
-use Rattle.pcm_numbers.specs.Devices.{is_rate}
+use Rattle.pcm_foreign.specs.Devices.{is_rate}
 use Rattle.pcm_oss.specs.declared.event.Event.{Event}
 use Rattle.pcm_oss.specs.declared.event.Event.TheVariants.{Open, Read, StartGroup, Intr}
 use Rattle.pcm_desk.specs.declared.limits.TheConstants.{DESCRIPTORS, READ_BYTES}
@@ -9,8 +9,8 @@ use Rattle.pcm_desk.specs.Events.{bytes_handed, frames_taken}
 use Rattle.pcm_desk.specs.Own.{descriptor_of}
 use Rattle.pcm_engine.specs.declared.limits.TheConstants.{LIFE}
 use Rattle.pcm_engine.specs.Brought.{bytes_asked, samples_asked}
-use Rattle.pcm_numbers.specs.declared.call_fault.CallFault.{CallFault}
-use Rattle.pcm_numbers.specs.declared.call_fault.CallFault.TheVariants.{Argument, Room, Worn}
+use Rattle.pcm_foreign.specs.declared.call_fault.CallFault.{CallFault}
+use Rattle.pcm_foreign.specs.declared.call_fault.CallFault.TheVariants.{Argument, Room, Worn}
 use Rattle.pcm_format.specs.Layouts.{channels_of}
 
 abbrev pub is_descriptor : ℕ → Bool

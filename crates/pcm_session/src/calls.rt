@@ -14,7 +14,7 @@ use crate::events::{
 };
 use crate::session::SessionOf;
 use pcm_feeder::Feeder;
-use pcm_numbers::{
+use pcm_foreign::{
     AnswerNumbers, CallFault, call_fault_number, numbers_of, refusal_number, settings_from,
 };
 use pcm_oss::{Answer, Errno, Event};

@@ -4,7 +4,7 @@ ghost use Rattle.std.specs.Prelude.{◌≡◌};
 ghost use Rattle.pcm_session.specs.Events.{event_for_close, descriptor_from, event_for_ioctl, event_for_join, length_from, event_for_mixer, event_for_open, event_for_poke, event_for_read, event_for_start, event_for_write};
 
 use pcm_desk::{DESCRIPTORS, READ_BYTES};
-use pcm_numbers::{mix_request_from, request_from, settings_from, way_from};
+use pcm_foreign::{mix_request_from, request_from, settings_from, way_from};
 use pcm_oss::Event;
 use pcm_wave::Source;
 

@@ -5,7 +5,7 @@ ghost use Rattle.pcm_session.specs.Taken.{is_descriptor, is_allowed};
 ghost use Rattle.pcm_desk.specs.Device.{unfiltered};
 
 use pcm_desk::{DESCRIPTORS, Device, READ_BYTES};
-use pcm_numbers::is_rate;
+use pcm_foreign::is_rate;
 use pcm_oss::Event;
 
 /// Whether an event keeps the limits of a device.

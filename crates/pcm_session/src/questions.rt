@@ -10,12 +10,12 @@ ghost use Rattle.pcm_session.specs.Questions.{WaitTold, of_descriptor, peek_told
 use crate::session::SessionOf;
 use pcm_desk::{DESCRIPTORS, Device};
 use pcm_feeder::Feeder;
-use pcm_numbers::{
+use pcm_foreign::{
     AnswerNumbers, BAD_DESCRIPTOR, WRONG_ARGUMENT, numbers_of, refusal_number, request_from,
     way_from,
 };
 use pcm_oss::Way;
-use pcm_status::{ChannelStatus, RunState, SlotState, SlotStatus};
+use pcm_status::{ChannelStatus, RunStatus, SlotState, SlotStatus};
 
 /// The status of the channel of a descriptor, in numbers.
 #[repr(C)]
@@ -229,14 +229,14 @@ fn way_number(way: Way) -> u32
     }
 }
 
-fn run_number(run: RunState) -> u32
+fn run_number(run: RunStatus) -> u32
     ensures { result ≡ run_number run }
 {
     match run {
-        RunState::Setup => 0,
-        RunState::Primed => 1,
-        RunState::Running => 2,
-        RunState::Draining => 3,
+        RunStatus::Setup => 0,
+        RunStatus::Primed => 1,
+        RunStatus::Running => 2,
+        RunStatus::Draining => 3,
     }
 }
 

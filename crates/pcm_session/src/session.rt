@@ -6,7 +6,7 @@ ghost use Rattle.pcm_desk.specs.Events.{bytes_handed};
 ghost use Rattle.pcm_engine.specs.declared.limits.TheConstants.{LIFE};
 ghost use Rattle.pcm_engine.specs.Engines.{device_of, AreReady, Stands};
 ghost use Rattle.pcm_feeder.specs.Racks.{AreRacks, list_of};
-ghost use Rattle.pcm_fixed.specs.Fixed.{fixed_items, fixed_len};
+ghost use Rattle.pcm_sequence.specs.Fixed.{fixed_items, fixed_len};
 ghost use Rattle.pcm_session.specs.Steps.{IsCallStep};
 ghost use Rattle.pcm_session.specs.Taken.{fault_of, frames_left, has_right, is_left, is_taken, unheard_room};
 ghost use Rattle.pcm_wave.specs.declared.pool.Pool.{Pool};
@@ -15,9 +15,9 @@ use crate::judge::is_allowed;
 use pcm_desk::Device;
 use pcm_engine::{EngineOf, LIFE, bytes_asked, bytes_handed, samples_asked};
 use pcm_feeder::{Feeder, RacksOf, Tables};
-use pcm_fixed::Fixed;
-use pcm_numbers::CallFault;
+use pcm_foreign::CallFault;
 use pcm_oss::{Answer, Errno, Event, ReplyBuf};
+use pcm_sequence::Fixed;
 use std::alloc::{AllocError, Global};
 
 /// An engine, with the reply to the last call.

@@ -19,7 +19,7 @@ use Rattle.pcm_desk.specs.declared.play_book.PlayBook.{PlayBook}
 use Rattle.pcm_desk.specs.declared.map_book.MapBook.{MapBook}
 use Rattle.pcm_desk.specs.Device.{DeviceSeen, IsDevice, mix_settings, mixed_slots}
 use Rattle.pcm_desk.specs.PlayBooks.{is_started}
-use Rattle.pcm_desk.specs.MapBooks.{is_map_running}
+use Rattle.pcm_desk.specs.RunStates.{is_running}
 use Rattle.pcm_desk.specs.Channels.{mixed_by}
 use Rattle.pcm_desk.specs.Desk.{Desk, after, map_at, play_at}
 use Rattle.pcm_desk.specs.Events.{Fits, frames_taken}
@@ -221,23 +221,23 @@ map_marking_at false true device mixed by new [] over a = a
 map_marking_at false true device mixed by new (run ∷ runs) over a = record { pieces = a.pieces; turn = a.turn }
 map_marking_at false false device mixed by new runs over a = a
 
-apart_map_marking : (device : DeviceSeen) (mixed by : ℕ) (old new : MapBook) (runs : List Run) → (is_map_running old.state ≡ false → All (IsOver device mixed) runs) → StandApart device by runs → StandApart device by (map_marking mixed old new runs)
+apart_map_marking : (device : DeviceSeen) (mixed by : ℕ) (old new : MapBook) (runs : List Run) → (is_running old.state ≡ false → All (IsOver device mixed) runs) → StandApart device by runs → StandApart device by (map_marking mixed old new runs)
 apart_map_marking device mixed by old new runs over a =
-    map_marking_at (map_starts old new) (map_ends old new) device mixed by new runs (λ e. over (starts_idle (is_map_running old.state) (is_map_running new.state) e)) a
+    map_marking_at (map_starts old new) (map_ends old new) device mixed by new runs (λ e. over (starts_idle (is_running old.state) (is_running new.state) e)) a
 
 apart_map_playing : (device : DeviceSeen) (mixed n : ℕ) (book : MapBook) (area : List ℕ) (runs : List Run) → StandApart device mixed runs → StandApart device (mixed + n) (map_playing device mixed n book area runs)
 apart_map_playing device mixed n book area [] a = record { pieces = tt; turn = tt }
 apart_map_playing device mixed n book area (run ∷ runs) a =
-    elim (is_map_running book.state && nat_lt 0 n) as (λ (b : Bool). StandApart device (mixed + n) (cond b (map_played device mixed n book area run ∷ runs) (run ∷ runs))) [
+    elim (is_running book.state && nat_lt 0 n) as (λ (b : Bool). StandApart device (mixed + n) (cond b (map_played device mixed n book area run ∷ runs) (run ∷ runs))) [
       | true ↦ record { pieces = (omega arith, a.pieces); turn = a.turn }
       | false ↦ apart_later device mixed (mixed + n) (run ∷ runs) (omega arith) a
     ]
 
 -- all runs of a slot that hasn't started are over, whatever an interrupt takes
-idle_over : (device : DeviceSeen) (mixed : ℕ) (book : MapBook) (runs : List Run) → MapIsPlaced device mixed book runs → is_map_running book.state ≡ false → All (IsOver device mixed) runs
+idle_over : (device : DeviceSeen) (mixed : ℕ) (book : MapBook) (runs : List Run) → MapIsPlaced device mixed book runs → is_running book.state ≡ false → All (IsOver device mixed) runs
 idle_over device mixed book runs p idle = unstarted-over device mixed book runs (subst (λ (b : Bool). MapArePlaced device mixed book b runs) idle p)
 
-played_over : (device : DeviceSeen) (mixed n : ℕ) (book : MapBook) (area : List ℕ) (runs : List Run) → MapIsPlaced device mixed book runs → is_map_running book.state ≡ false
+played_over : (device : DeviceSeen) (mixed n : ℕ) (book : MapBook) (area : List ℕ) (runs : List Run) → MapIsPlaced device mixed book runs → is_running book.state ≡ false
     → All (IsOver device mixed) (map_playing device mixed n book area runs)
 played_over device mixed n book area runs p idle =
     subst (All (IsOver device mixed)) (sym (map_playing-idle device mixed n book area runs (ap (λ (b : Bool). b && nat_lt 0 n) idle))) (idle_over device mixed book runs p idle)

@@ -23,7 +23,8 @@ use Rattle.pcm_desk.specs.declared.opening.Opening.{Opening}
 use Rattle.pcm_desk.specs.declared.turn.Turn.{Turn}
 use Rattle.pcm_desk.specs.BookTurns.{doing, refused}
 use Rattle.pcm_desk.specs.Device.{DeviceSeen, map_slots}
-use Rattle.pcm_desk.specs.MapBooks.{is_map_free, is_map_running, taken_of}
+use Rattle.pcm_desk.specs.RunStates.{is_unheld, is_running}
+use Rattle.pcm_desk.specs.MapBooks.{taken_of}
 use Rattle.pcm_desk.specs.MapRequests.{map_ask}
 use Rattle.pcm_desk.specs.Openings.{ring_bytes}
 use Rattle.pcm_desk.specs.Desk.{Desk, after, channel_turn, held_by, map_at, map_unopened}
@@ -88,7 +89,7 @@ sized pool desk event slot old new area is = at (silences old new) refl
     at true e = length-area_bytes (silent_byte new.opening.settings.format) 0 (ring_bytes new.opening)
     at false e =
         length-written pool desk event slot area ∙ is
-        ∙ uncut old.opening new.opening (or_parts (is_map_free old.state && not (is_map_free new.state)) (is_recut old.opening new.opening) e).1
+        ∙ uncut old.opening new.opening (or_parts (is_unheld old.state && not (is_unheld new.state)) (is_recut old.opening new.opening) e).1
 
 sized_all : (device : DeviceSeen) (pool : Pool) (story : Story) (events : List Event) (slot : ℕ) → length (story.areas slot) ≡ ring_bytes (map_at device story.desk slot).opening
     → length ((told_all device pool story events).areas slot) ≡ ring_bytes (map_at device (told_all device pool story events).desk slot).opening
@@ -116,7 +117,7 @@ poked_book device desk fd offset at count slot =
 pub poke-takes-nothing : (device : DeviceSeen) (pool : Pool) (story : Story) (fd offset at count slot : ℕ) → (told device pool story (Poke fd offset at count)).map_runs slot ≡ story.map_runs slot
 poke-takes-nothing device pool story fd offset at count slot =
     let old : MapBook = map_at device story.desk slot in
-    ap (λ (new : MapBook). map_marking story.desk.mixed old new (story.map_runs slot)) (poked_book device story.desk fd offset at count slot) ∙ unmarked (is_map_running old.state)
+    ap (λ (new : MapBook). map_marking story.desk.mixed old new (story.map_runs slot)) (poked_book device story.desk fd offset at count slot) ∙ unmarked (is_running old.state)
   where
     unmarked : (b : Bool) → cond (not b && b) (mapped_run story.desk.mixed (map_at device story.desk slot) ∷ story.map_runs slot) (cond (b && not b) (map_stopped story.desk.mixed (story.map_runs slot)) (story.map_runs slot)) ≡ story.map_runs slot
     unmarked true = refl
@@ -152,7 +153,7 @@ same_eqb n = grind (arith, nat_tests)
 pub area-kept : (book : MapBook) → silences book book ≡ false
 area-kept book =
     rw (same_eqb (code_of book.opening.settings.format), same_eqb (channels_of book.opening.settings.layout), same_eqb book.opening.fragments.count, same_eqb book.opening.fragments.log)
-    (never (is_map_free book.state))
+    (never (is_unheld book.state))
   where
     never : (b : Bool) → ((b && not b) || (not true || not true || not true || not true)) ≡ false
     never true = refl

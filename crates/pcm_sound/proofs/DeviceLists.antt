@@ -29,8 +29,8 @@ use Rattle.pcm_rate.proofs.Counts.{can-greatest}
 use Rattle.pcm_feeder.specs.Limits.{IsRate}
 use Rattle.pcm_mix.proofs.Blocks.{length-mixed}
 use Rattle.pcm_mixdev.specs.Mixers.{master_gain, slot_gain}
-use Rattle.pcm_mixdev.proofs.FadedFrames.{length-at_gain}
-use Rattle.pcm_desk.specs.Device.{DeviceSeen, IsDevice, device_frame_bytes, device_settings, filters_of, full_frame, mix_settings, mixed_for, parent_plan, mixed_slots, parent_rate, play_plan_between, ring_frames}
+use Rattle.pcm_feeder.proofs.FadedFrames.{length-at_gain}
+use Rattle.pcm_desk.specs.Device.{DeviceSeen, IsDevice, device_frame_bytes, device_settings, device_filters, full_frame, mix_settings, mixed_for, parent_plan, mixed_slots, parent_rate, play_plan_between, ring_frames}
 use Rattle.pcm_desk.specs.Channels.{mixed_by}
 use Rattle.pcm_desk.specs.Desk.{after}
 use Rattle.pcm_plan.specs.Plans.{PlanSeen}
@@ -103,7 +103,7 @@ mixed_frames-same device one a other b count alike =
 -- the frames that were mixed stay as they were, and so does what was made of them
 pub device_list-same : (device : DeviceSeen) (one : Faders) (a : Table) (other : Faders) (b : Table) (handed : ℕ) → MixAlike device (mixed_for device handed) one a other b → device_list device one a handed ≡ device_list device other b handed
 device_list-same device one a other b handed alike =
-    ap (λ mixed. replicate (ring_frames device) (silence_in (device_settings device)) ++ recs (parent_plan device) (filters_of device) mixed 0 handed) (mixed_frames-same device one a other b (mixed_for device handed) alike)
+    ap (λ mixed. replicate (ring_frames device) (silence_in (device_settings device)) ++ recs (parent_plan device) (device_filters device) mixed 0 handed) (mixed_frames-same device one a other b (mixed_for device handed) alike)
 
 -- more of the mix
 pub mixed_frames-more : (device : DeviceSeen) (mix : ℕ → Frame) (count n : ℕ) → mixed_frames device mix (count + n) ≡ mixed_frames device mix count ++ map (λ position. full_frame device (mix position)) (range_with_len count n)
@@ -118,7 +118,7 @@ length-mixed_frames device mix count = length-map (range_with_len 0 count) (λ p
 device_frames-later : (device : DeviceSeen) (mix : ℕ → Frame) (handed n : ℕ) → IsDevice device → device_frames device mix (handed + n) 0 handed ≡ device_frames device mix handed 0 handed
 device_frames-later device mix handed n d =
     let plan : PlanSeen = parent_plan device in
-    let tables : Filters = filters_of device in
+    let tables : Filters = device_filters device in
     let count : ℕ = mixed_for device handed in
     let q : ℕ = mixed_by device handed n in
     let front : List Frame = mixed_frames device mix count in
@@ -137,7 +137,7 @@ device_list-more device faders table handed n d =
     let mix : ℕ → Frame = mix_at device faders table in
     let behind : List Frame = device_frames device mix (handed + n) handed n in
     ap (λ list. silent ++ list)
-    (outs-add (parent_plan device) (filters_of device) unity (mixed_frames device mix (mixed_for device (handed + n))) 0 handed n
+    (outs-add (parent_plan device) (device_filters device) unity (mixed_frames device mix (mixed_for device (handed + n))) 0 handed n
     ∙ ap (λ from. device_frames device mix (handed + n) 0 handed ++ device_frames device mix (handed + n) from n) (zero-add handed)
     ∙ ap (λ list. list ++ behind) (device_frames-later device mix handed n d))
     ∙ sym (append_assoc silent (device_frames device mix handed 0 handed) behind)
@@ -159,7 +159,7 @@ IsMixedFrame device frame = length frame ≡ channels_of (mix_settings device).l
 -- what a client's frames give is a frame of the mix
 pub length-given_frame : (device : DeviceSeen) (settings : Settings) (bytes : List ℕ) (k : ℕ) (gain : Gain) → IsDevice device → IsRate settings.rate → IsMixedFrame device (given_frame device settings (frames settings bytes) k gain)
 length-given_frame device settings bytes k gain d s =
-    length-out (play_plan_between device settings) (filters_of device) (frames settings bytes) k gain (plan-between-fits device settings d s) (frames-channels settings bytes)
+    length-out (play_plan_between device settings) (device_filters device) (frames settings bytes) k gain (plan-between-fits device settings d s) (frames-channels settings bytes)
 
 piece_frame-frame : (device : DeviceSeen) (gain : Gain) (settings : Settings) (bytes : List ℕ) (position : ℕ) (found : Option Piece) → IsDevice device → IsRate settings.rate
     → IfSome (piece_frame device gain settings (frames settings bytes) position found) (IsMixedFrame device)
@@ -221,13 +221,13 @@ device_list-frames device faders table handed d g =
     let mixed : List Frame = mixed_frames device (mix_at device faders table) (mixed_for device handed) in
     All-append (IsDeviceFrame device) (replicate (ring_frames device) (silence_in (device_settings device))) (device_frames device (mix_at device faders table) handed 0 handed)
     (All-replicate (IsDeviceFrame device) (ring_frames device) (silence_in (device_settings device)) (length-silence (device_settings device)))
-    (outs-channels (parent_plan device) (filters_of device) unity mixed 0 handed (parent-plan-fits device d) (mixed_frames-frames device faders table (mixed_for device handed) g))
+    (outs-channels (parent_plan device) (device_filters device) unity mixed 0 handed (parent-plan-fits device d) (mixed_frames-frames device faders table (mixed_for device handed) g))
 
 pub length-device_list : (device : DeviceSeen) (faders : Faders) (table : Table) (handed : ℕ) → length (device_list device faders table handed) ≡ ring_frames device + handed
 length-device_list device faders table handed =
     let silent : List Frame = replicate (ring_frames device) (silence_in (device_settings device)) in
     let ring = length-replicate (ring_frames device) (silence_in (device_settings device)) in
-    let made = length-outs (parent_plan device) (filters_of device) unity (mixed_frames device (mix_at device faders table) (mixed_for device handed)) 0 handed in
+    let made = length-outs (parent_plan device) (device_filters device) unity (mixed_frames device (mix_at device faders table) (mixed_for device handed)) 0 handed in
     length-append silent (device_frames device (mix_at device faders table) handed 0 handed) ∙ omega (arith, ring, made)
 
 length-spelled_frame : (device : DeviceSeen) (frame : Frame) → IsDeviceFrame device frame → length (spelled_frame (device_settings device).format frame) ≡ device_frame_bytes device

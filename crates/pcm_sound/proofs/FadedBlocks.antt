@@ -11,9 +11,9 @@ use Rattle.pcm_oss.specs.declared.event.Event.TheVariants.{Intr}
 use Rattle.pcm_wave.specs.declared.pool.Pool.{Pool}
 use Rattle.pcm_feeder.specs.declared.stage.Gain.{Gain}
 use Rattle.pcm_feeder.specs.Layouts.{at_gain}
-use Rattle.pcm_mixdev.specs.Fades.{faded}
+use Rattle.pcm_feeder.specs.Fades.{faded}
 use Rattle.pcm_mixdev.specs.Mixers.{Levels, master_gain, slot_gain}
-use Rattle.pcm_mixdev.proofs.FadedFrames.{faded-joined}
+use Rattle.pcm_feeder.proofs.FadedFrames.{faded-joined}
 use Rattle.pcm_desk.specs.Device.{DeviceSeen, mix_settings, mixed_slots}
 use Rattle.pcm_desk.specs.Desk.{after}
 use Rattle.pcm_sound.specs.Story.{Story, told}

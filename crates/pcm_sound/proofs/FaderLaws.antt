@@ -14,7 +14,7 @@ use Rattle.pcm_desk.specs.declared.record_book.RecordBook.{RecordBook}
 use Rattle.pcm_desk.specs.Device.{DeviceSeen, IsDevice}
 use Rattle.pcm_desk.specs.Desk.{map_at, play_at, record_at}
 use Rattle.pcm_desk.specs.PlayBooks.{is_draining, is_started}
-use Rattle.pcm_desk.specs.RecordBooks.{is_running}
+use Rattle.pcm_desk.specs.RunStates.{is_running}
 use Rattle.pcm_desk.specs.Events.{Fits}
 use Rattle.pcm_sound.specs.Areas.{silent_area}
 use Rattle.pcm_sound.specs.Gains.{master_gain_at, slot_gain_at}

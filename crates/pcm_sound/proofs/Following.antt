@@ -18,10 +18,11 @@ use Rattle.pcm_rate.proofs.Counts.{len_grows}
 use Rattle.pcm_feeder.specs.Limits.{IsRate}
 use Rattle.pcm_desk.specs.declared.turn.Turn.{Turn}
 use Rattle.pcm_desk.specs.declared.record_book.RecordBook.{RecordBook}
-use Rattle.pcm_desk.specs.declared.record_book.RecordState.{RecordState}
-use Rattle.pcm_desk.specs.declared.record_book.RecordState.TheVariants.{Free, Setup, Running}
+use Rattle.pcm_desk.specs.declared.run_state.RunState.{RunState}
+use Rattle.pcm_desk.specs.declared.run_state.RunState.TheVariants.{Free, Setup, Running}
 use Rattle.pcm_desk.specs.Device.{DeviceSeen, IsDevice, device_settings}
-use Rattle.pcm_desk.specs.RecordBooks.{captured_in, captures, is_running, keeping, record_fill_of}
+use Rattle.pcm_desk.specs.RunStates.{is_running}
+use Rattle.pcm_desk.specs.RecordBooks.{captured_in, captures, keeping, record_fill_of}
 use Rattle.pcm_desk.specs.RecordSafe.{IsRecordUnstarted, RecordIsSafe}
 use Rattle.pcm_desk.specs.Channels.{capturing, record_rate_at, Channel}
 use Rattle.pcm_desk.specs.Desk.{Desk, after, record_at}
@@ -159,7 +160,7 @@ hears-running device pool handed n book recording d s safe r =
       frames = sym (ap (take (book.captured + n)) all ∙ take_all (book.captured + n) (captured_frames layout pool recording.start (book.captured + n)) (omega (arith, length-map-range_with_len (captured_frame layout pool) recording.start (book.captured + n))));
     }
 
-hears_at : (device : DeviceSeen) (pool : Pool) (handed n : ℕ) (state : RecordState) (book : RecordBook) (recording : Recording) → book.state ≡ state → IsDevice device → RecordingIsValid device pool handed book recording
+hears_at : (device : DeviceSeen) (pool : Pool) (handed n : ℕ) (state : RunState) (book : RecordBook) (recording : Recording) → book.state ≡ state → IsDevice device → RecordingIsValid device pool handed book recording
     → let new : RecordBook = captured_in (record_rate_at device book) state n book in
     Hears device pool handed n book new recording (cond (not (is_running state) && is_running new.state) (recording_from handed) (cond (is_running state) (recordings.keeps device pool n book recording) recording))
 hears_at device pool handed n Free book recording e d v =

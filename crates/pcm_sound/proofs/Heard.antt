@@ -13,7 +13,7 @@ use Rattle.pcm_desk.specs.declared.play_book.PlayBook.{PlayBook}
 use Rattle.pcm_desk.specs.Device.{DeviceSeen, IsDevice, play_plan_between, play_rate_between}
 use Rattle.pcm_desk.specs.declared.map_book.MapBook.{MapBook}
 use Rattle.pcm_desk.specs.PlayBooks.{is_started}
-use Rattle.pcm_desk.specs.MapBooks.{is_map_running}
+use Rattle.pcm_desk.specs.RunStates.{is_running}
 use Rattle.pcm_desk.specs.PlaySafe.{PlayIsSafe}
 use Rattle.pcm_desk.specs.Channels.{play_rate_at}
 use Rattle.pcm_desk.proofs.Ratios.{ratio-between}
@@ -182,7 +182,7 @@ going_map device mixed book run more g = λ unbroken.
       end = map_end run.drained run.dropped g.start (lasting device run) book.given mixed more g.dropped next;
     })
 
-map_newest_heard : (running : Bool) (device : DeviceSeen) (mixed : ℕ) (book : MapBook) (run : Run) (runs : List Run) → is_map_running book.state ≡ running → MapIsValid device mixed book (run ∷ runs) → RunIsHeard device mixed run
+map_newest_heard : (running : Bool) (device : DeviceSeen) (mixed : ℕ) (book : MapBook) (run : Run) (runs : List Run) → is_running book.state ≡ running → MapIsValid device mixed book (run ∷ runs) → RunIsHeard device mixed run
 map_newest_heard true device mixed book run runs e v = going_map device mixed book run (v.newest e).2 (v.placed.2 e)
 map_newest_heard false device mixed book run runs e v = over_heard device mixed run (v.placed.1 e)
 
@@ -190,7 +190,7 @@ map_newest_heard false device mixed book run runs e v = over_heard device mixed 
 pub map-runs-heard : (device : DeviceSeen) (mixed : ℕ) (book : MapBook) (runs : List Run) → MapIsValid device mixed book runs → All (RunIsHeard device mixed) runs
 map-runs-heard device mixed book [] v = All-nil (RunIsHeard device mixed)
 map-runs-heard device mixed book (run ∷ runs) v =
-    All-cons (RunIsHeard device mixed) run runs (map_newest_heard (is_map_running book.state) device mixed book run runs refl v)
+    All-cons (RunIsHeard device mixed) run runs (map_newest_heard (is_running book.state) device mixed book run runs refl v)
     (All-weaker (IsOver device mixed) (RunIsHeard device mixed) (λ r over. over_heard device mixed r over) runs v.placed.0)
 
 -- ---- spans

@@ -14,10 +14,11 @@ use Rattle.pcm_rate.proofs.Counts.{can-greatest, need_grows}
 use Rattle.pcm_feeder.specs.Limits.{IsRate}
 use Rattle.pcm_oss.specs.declared.request.Request.{Request}
 use Rattle.pcm_desk.specs.declared.map_book.MapBook.{MapBook}
-use Rattle.pcm_desk.specs.declared.map_book.MapState.{MapState}
-use Rattle.pcm_desk.specs.declared.map_book.MapState.TheVariants.{Free, Setup, Running}
+use Rattle.pcm_desk.specs.declared.run_state.RunState.{RunState}
+use Rattle.pcm_desk.specs.declared.run_state.RunState.TheVariants.{Free, Setup, Running}
 use Rattle.pcm_desk.specs.Device.{DeviceSeen, IsDevice, play_rate_between}
-use Rattle.pcm_desk.specs.MapBooks.{is_map_running, is_map_setup, map_begun, map_closed, map_gives, map_refilled_in, poke_turn, taken_of}
+use Rattle.pcm_desk.specs.RunStates.{is_running, is_in_setup}
+use Rattle.pcm_desk.specs.MapBooks.{map_begun, map_closed, map_gives, map_refilled_in, poke_turn, taken_of}
 use Rattle.pcm_desk.specs.MapRequests.{map_ask}
 use Rattle.pcm_desk.specs.MapSafe.{IsMapInOrder, MapIsSafe}
 use Rattle.pcm_desk.specs.Channels.{map_mixing, map_rate_at}
@@ -50,8 +51,8 @@ pub record GoesOn (old new : MapBook) : Type 0 where
 pub record Keeps (device : DeviceSeen) (old new : MapBook) : Type 0 where
   pub rate : IsRate old.opening.settings.rate → IsRate new.opening.settings.rate
   pub safe : MapIsSafeAt device old → MapIsSafeAt device new
-  pub goes : MapIsSafeAt device old → is_map_running old.state ≡ true → is_map_running new.state ≡ true → GoesOn old new
-  pub fresh : MapIsSafeAt device old → is_map_running old.state ≡ false → is_map_running new.state ≡ true → new.given ≡ 0
+  pub goes : MapIsSafeAt device old → is_running old.state ≡ true → is_running new.state ≡ true → GoesOn old new
+  pub fresh : MapIsSafeAt device old → is_running old.state ≡ false → is_running new.state ≡ true → new.given ≡ 0
 
 pub keeps-same : (device : DeviceSeen) (book : MapBook) → Keeps device book book
 keeps-same device book = record {
@@ -62,7 +63,7 @@ keeps-same device book = record {
 }
 
 -- one that isn't running
-stopped : (device : DeviceSeen) (old new : MapBook) → is_map_running new.state ≡ false → (IsRate old.opening.settings.rate → IsRate new.opening.settings.rate) → (MapIsSafeAt device old → MapIsSafeAt device new) → Keeps device old new
+stopped : (device : DeviceSeen) (old new : MapBook) → is_running new.state ≡ false → (IsRate old.opening.settings.rate → IsRate new.opening.settings.rate) → (MapIsSafeAt device old → MapIsSafeAt device new) → Keeps device old new
 stopped device old new off rate safe = record {
   rate = rate;
   safe = safe;
@@ -80,12 +81,12 @@ pub keeps-poked : (device : DeviceSeen) (offset count : ℕ) (book : MapBook) �
 keeps-poked device offset count book = subst (Keeps device book) (sym (poke-kept offset count book)) (keeps-same device book)
 
 -- a book that has not started has given nothing
-pub unstarted-none : (state : MapState) (book : MapBook) → is_map_running state ≡ false → IsMapInOrder state book → book.given ≡ 0
+pub unstarted-none : (state : RunState) (book : MapBook) → is_running state ≡ false → IsMapInOrder state book → book.given ≡ 0
 unstarted-none Free book off order = order
 unstarted-none Setup book off order = order
 unstarted-none Running book off order = cc
 
-not_setup : (state : MapState) → is_map_running state ≡ true → is_map_setup state ≡ false
+not_setup : (state : RunState) → is_running state ≡ true → is_in_setup state ≡ false
 not_setup Free on = cc
 not_setup Setup on = cc
 not_setup Running on = refl
@@ -170,7 +171,7 @@ stopped_over device mixed book run more g =
     )
 
 -- the slot after one of these
-marked : (was is : Bool) (device : DeviceSeen) (mixed : ℕ) (old new : MapBook) (runs : List Run) → is_map_running old.state ≡ was → is_map_running new.state ≡ is
+marked : (was is : Bool) (device : DeviceSeen) (mixed : ℕ) (old new : MapBook) (runs : List Run) → is_running old.state ≡ was → is_running new.state ≡ is
     → Keeps device old new → MapIsValid device mixed old runs → MapIsValid device mixed new (marked_by was is mixed new runs)
 marked true true device mixed old new runs was is k v =
     let g = k.goes v.safe was is in
@@ -232,7 +233,7 @@ marked true false device mixed old new (run ∷ runs) was is k v =
 
 -- a slot stays valid through an event that mixes nothing
 pub map-marked : (device : DeviceSeen) (mixed : ℕ) (old new : MapBook) (runs : List Run) → Keeps device old new → MapIsValid device mixed old runs → MapIsValid device mixed new (map_marking mixed old new runs)
-map-marked device mixed old new runs k v = marked (is_map_running old.state) (is_map_running new.state) device mixed old new runs refl refl k v
+map-marked device mixed old new runs k v = marked (is_running old.state) (is_running new.state) device mixed old new runs refl refl k v
 
 -- ---- frames are mixed
 
@@ -248,16 +249,16 @@ runs_later : (device : DeviceSeen) (mixed later : ℕ) (runs : List Run) → mix
 runs_later device mixed later runs h v = All-weaker (RunIsValid device mixed) (RunIsValid device later) (λ run r. run_later device mixed later run h r) runs v
 
 -- nothing is taken of a slot that hasn't started, nor of any where nothing is mixed
-pub map_playing-idle : (device : DeviceSeen) (position n : ℕ) (book : MapBook) (area : List ℕ) (runs : List Run) → is_map_running book.state && nat_lt 0 n ≡ false → map_playing device position n book area runs ≡ runs
+pub map_playing-idle : (device : DeviceSeen) (position n : ℕ) (book : MapBook) (area : List ℕ) (runs : List Run) → is_running book.state && nat_lt 0 n ≡ false → map_playing device position n book area runs ≡ runs
 map_playing-idle device position n book area [] e = refl
 map_playing-idle device position n book area (run ∷ runs) e = ap (λ (b : Bool). cond b (map_played device position n book area run ∷ runs) (run ∷ runs)) e
 
-pub map_playing-on : (device : DeviceSeen) (position n : ℕ) (book : MapBook) (area : List ℕ) (run : Run) (runs : List Run) → is_map_running book.state && nat_lt 0 n ≡ true
+pub map_playing-on : (device : DeviceSeen) (position n : ℕ) (book : MapBook) (area : List ℕ) (run : Run) (runs : List Run) → is_running book.state && nat_lt 0 n ≡ true
     → map_playing device position n book area (run ∷ runs) ≡ map_played device position n book area run ∷ runs
 map_playing-on device position n book area run runs e = ap (λ (b : Bool). cond b (map_played device position n book area run ∷ runs) (run ∷ runs)) e
 
 -- a slot that hasn't started stays valid
-idle_valid : (device : DeviceSeen) (mixed n : ℕ) (book : MapBook) (area : List ℕ) (runs : List Run) → is_map_running book.state ≡ false → MapIsValid device mixed book runs
+idle_valid : (device : DeviceSeen) (mixed n : ℕ) (book : MapBook) (area : List ℕ) (runs : List Run) → is_running book.state ≡ false → MapIsValid device mixed book runs
     → MapIsValid device (mixed + n) book (map_playing device mixed n book area runs)
 idle_valid device mixed n book area runs off v =
     subst (MapIsValid device (mixed + n) book) (sym (map_playing-idle device mixed n book area runs (ap (λ (b : Bool). b && nat_lt 0 n) off))) (record {
@@ -334,7 +335,7 @@ going_valid device mixed n book area (run ∷ runs) d v =
       whole = All-cons IsUnbroken now runs (All-cons (λ (p : Piece). p.short ≡ 0) piece run.pieces refl (All-head IsUnbroken run runs v.whole)) (All-tail IsUnbroken run runs v.whole);
     })
 
-mixed_at : (state : MapState) (device : DeviceSeen) (mixed n : ℕ) (book : MapBook) (area : List ℕ) (runs : List Run) → IsDevice device → MapIsValid device mixed (record book { state = state }) runs
+mixed_at : (state : RunState) (device : DeviceSeen) (mixed n : ℕ) (book : MapBook) (area : List ℕ) (runs : List Run) → IsDevice device → MapIsValid device mixed (record book { state = state }) runs
     → MapIsValid device (mixed + suc n) (map_refilled_in (map_rate_at device book) state (suc n) (record book { state = state })) (map_playing device mixed (suc n) (record book { state = state }) area runs)
 mixed_at Free device mixed n book area runs d v = idle_valid device mixed (suc n) (record book { state = Free }) area runs refl v
 mixed_at Setup device mixed n book area runs d v = idle_valid device mixed (suc n) (record book { state = Setup }) area runs refl v
@@ -348,6 +349,6 @@ none-mixed false = refl
 pub map-mixed : (device : DeviceSeen) (mixed n : ℕ) (book : MapBook) (area : List ℕ) (runs : List Run) → IsDevice device → MapIsValid device mixed book runs
     → MapIsValid device (mixed + n) (map_mixing device n book) (map_playing device mixed n book area runs)
 map-mixed device mixed zero book area runs d v =
-    subst (MapIsValid device (mixed + 0) book) (sym (map_playing-idle device mixed 0 book area runs (none-mixed (is_map_running book.state))))
+    subst (MapIsValid device (mixed + 0) book) (sym (map_playing-idle device mixed 0 book area runs (none-mixed (is_running book.state))))
     (subst (λ (m : ℕ). MapIsValid device m book runs) (omega arith) v)
 map-mixed device mixed (suc n) book area runs d v = mixed_at book.state device mixed n book area runs d v

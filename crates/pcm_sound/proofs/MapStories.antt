@@ -13,10 +13,11 @@ use Rattle.pcm_wave.specs.declared.pool.Pool.{Pool}
 use Rattle.pcm_feeder.specs.declared.stage.Gain.{Gain}
 use Rattle.pcm_desk.specs.declared.device.Held.{Held}
 use Rattle.pcm_desk.specs.declared.map_book.MapBook.{MapBook}
-use Rattle.pcm_desk.specs.declared.map_book.MapState.{MapState}
-use Rattle.pcm_desk.specs.declared.map_book.MapState.TheVariants.{Free, Setup, Running}
+use Rattle.pcm_desk.specs.declared.run_state.RunState.{RunState}
+use Rattle.pcm_desk.specs.declared.run_state.RunState.TheVariants.{Free, Setup, Running}
 use Rattle.pcm_desk.specs.Device.{DeviceSeen, IsDevice, here_at}
-use Rattle.pcm_desk.specs.MapBooks.{is_map_running, map_refilled_in}
+use Rattle.pcm_desk.specs.RunStates.{is_running}
+use Rattle.pcm_desk.specs.MapBooks.{map_refilled_in}
 use Rattle.pcm_desk.specs.Channels.{map_mixing, map_rate_at, mixed_by, own_request, own_join, own_turn, Grouping, Mapped, Channel, channel_begun, member_refusal}
 use Rattle.pcm_desk.specs.Desk.{Desk, after, map_at, map_unopened, grouping_at}
 use Rattle.pcm_desk.specs.Events.{Fits, frames_taken}
@@ -79,18 +80,18 @@ keeps-maps device pool desk event fits none slot =
 -- ---- the slots
 
 -- an interrupt starts no run and stops none
-runs_on : (state : MapState) (device : DeviceSeen) (n : ℕ) (book : MapBook) → is_map_running (map_refilled_in (map_rate_at device book) state n (record book { state = state })).state ≡ is_map_running state
+runs_on : (state : RunState) (device : DeviceSeen) (n : ℕ) (book : MapBook) → is_running (map_refilled_in (map_rate_at device book) state n (record book { state = state })).state ≡ is_running state
 runs_on Free device n book = refl
 runs_on Setup device n book = refl
 runs_on Running device n book = refl
 
-pub map_mixing-runs : (device : DeviceSeen) (n : ℕ) (book : MapBook) → is_map_running (map_mixing device n book).state ≡ is_map_running book.state
+pub map_mixing-runs : (device : DeviceSeen) (n : ℕ) (book : MapBook) → is_running (map_mixing device n book).state ≡ is_running book.state
 map_mixing-runs device zero book = refl
 map_mixing-runs device (suc n) book = runs_on book.state device (suc n) book
 
 -- so it marks no run besides
-pub map_marking-same : (position : ℕ) (old new : MapBook) (runs : List Run) → is_map_running new.state ≡ is_map_running old.state → map_marking position old new runs ≡ runs
-map_marking-same position old new runs same = at (is_map_running old.state) (is_map_running new.state) same
+pub map_marking-same : (position : ℕ) (old new : MapBook) (runs : List Run) → is_running new.state ≡ is_running old.state → map_marking position old new runs ≡ runs
+map_marking-same position old new runs same = at (is_running old.state) (is_running new.state) same
   where
     at : (was is : Bool) → is ≡ was → cond (not was && is) (mapped_run position new ∷ runs) (cond (was && not is) (map_stopped position runs) runs) ≡ runs
     at true true e = refl
@@ -125,7 +126,7 @@ map-interrupted device story n slot d v =
     let new : MapBook = map_at device (after device story.desk (Intr n)).desk slot in
     let is : new ≡ map_mixing device q old = map_at-passing device story.desk n slot in
     let runs : List Run = map_taken_at device story n slot in
-    subst (MapIsValid device (story.desk.mixed + q) new) (sym (map_marking-same story.desk.mixed old new runs (ap (λ (book : MapBook). is_map_running book.state) is ∙ map_mixing-runs device q old)))
+    subst (MapIsValid device (story.desk.mixed + q) new) (sym (map_marking-same story.desk.mixed old new runs (ap (λ (book : MapBook). is_running book.state) is ∙ map_mixing-runs device q old)))
     (subst (λ (book : MapBook). MapIsValid device (story.desk.mixed + q) book runs) (sym is) (map-mixed device story.desk.mixed q old (story.areas slot) (story.map_runs slot) d v))
 
 -- before the first event
@@ -144,7 +145,7 @@ map-valid-start device d = record {
 
 -- the start and the end of a run aren't heard in the past
 pub sounding-map_marking : (device : DeviceSeen) (gain : Gain) (position : ℕ) (old new : MapBook) (runs : List Run) (p : ℕ) → sounding device gain (map_marking position old new runs) p ≡ sounding device gain runs p
-sounding-map_marking device gain position old new runs p = at (not (is_map_running old.state) && is_map_running new.state) (is_map_running old.state && not (is_map_running new.state)) runs
+sounding-map_marking device gain position old new runs p = at (not (is_running old.state) && is_running new.state) (is_running old.state && not (is_running new.state)) runs
   where
     at : (starts ends : Bool) (runs : List Run) → sounding device gain (cond starts (mapped_run position new ∷ runs) (cond ends (map_stopped position runs) runs)) p ≡ sounding device gain runs p
     at true ends runs = refl
@@ -153,7 +154,7 @@ sounding-map_marking device gain position old new runs p = at (not (is_map_runni
     at false false runs = refl
 
 -- nor is what an interrupt takes
-taken_past : (b : Bool) (device : DeviceSeen) (gain : Gain) (position n p : ℕ) (book : MapBook) (area : List ℕ) (run : Run) (runs : List Run) → IsDevice device → is_map_running book.state ≡ b → MapIsValid device position book (run ∷ runs) → p < position
+taken_past : (b : Bool) (device : DeviceSeen) (gain : Gain) (position n p : ℕ) (book : MapBook) (area : List ℕ) (run : Run) (runs : List Run) → IsDevice device → is_running book.state ≡ b → MapIsValid device position book (run ∷ runs) → p < position
     → sounding device gain (cond (b && nat_lt 0 n) (map_played device position n book area run ∷ runs) (run ∷ runs)) p ≡ sounding device gain (run ∷ runs) p
 taken_past false device gain position n p book area run runs d on v h = refl
 taken_past true device gain position n p book area run runs d on v h =
@@ -171,7 +172,7 @@ taken_past true device gain position n p book area run runs d on v h =
 pub sounding-map_playing : (device : DeviceSeen) (gain : Gain) (position n p : ℕ) (book : MapBook) (area : List ℕ) (runs : List Run) → IsDevice device → MapIsValid device position book runs → p < position
     → sounding device gain (map_playing device position n book area runs) p ≡ sounding device gain runs p
 sounding-map_playing device gain position n p book area [] d v h = refl
-sounding-map_playing device gain position n p book area (run ∷ runs) d v h = taken_past (is_map_running book.state) device gain position n p book area run runs d refl v h
+sounding-map_playing device gain position n p book area (run ∷ runs) d v h = taken_past (is_running book.state) device gain position n p book area run runs d refl v h
 
 pub sounding-map_carrying : (device : DeviceSeen) (gain : Gain) (desk : Desk) (event : Event) (p : ℕ) (book : MapBook) (area : List ℕ) (runs : List Run) → IsDevice device → MapIsValid device desk.mixed book runs → p < desk.mixed
     → sounding device gain (map_carrying device desk event book area runs) p ≡ sounding device gain runs p

@@ -11,11 +11,11 @@ use Rattle.pcm_format.specs.Frames.{Frame, frames}
 use Rattle.pcm_feeder.specs.declared.stage.Gain.{Gain}
 use Rattle.pcm_feeder.specs.Layouts.{at_gain}
 use Rattle.pcm_mix.specs.Mix.{mixed}
-use Rattle.pcm_mixdev.specs.Fades.{faded}
-use Rattle.pcm_mixdev.proofs.FadedFrames.{faded-nothing, length-at_gain}
+use Rattle.pcm_feeder.specs.Fades.{faded}
+use Rattle.pcm_feeder.proofs.FadedFrames.{faded-nothing, length-at_gain}
 use Rattle.pcm_desk.specs.declared.map_book.MapBook.{MapBook}
 use Rattle.pcm_desk.specs.Device.{DeviceSeen, IsDevice, mix_settings}
-use Rattle.pcm_desk.specs.MapBooks.{is_map_running}
+use Rattle.pcm_desk.specs.RunStates.{is_running}
 use Rattle.pcm_sound.specs.Added.{map_giving, map_turned}
 use Rattle.pcm_sound.specs.Gains.{map_gain}
 use Rattle.pcm_sound.specs.Given.{given_frame, given_samples}
@@ -36,11 +36,11 @@ MapTurn device position n book runs gains faders slot_gain bytes area sum =
     ≡ map_turned device n slot_gain book bytes area (flat_map sum (range_with_len 0 n))
 
 -- a slot that hasn't started gives nothing
-untouched : (device : DeviceSeen) (position n : ℕ) (book : MapBook) (area : List ℕ) (runs : List Run) → is_map_running book.state ≡ false → map_playing device position n book area runs ≡ runs
+untouched : (device : DeviceSeen) (position n : ℕ) (book : MapBook) (area : List ℕ) (runs : List Run) → is_running book.state ≡ false → map_playing device position n book area runs ≡ runs
 untouched device position n book area [] off = refl
 untouched device position n book area (run ∷ runs) off = ap (λ (b : Bool). cond (b && nat_lt 0 n) (map_played device position n book area run ∷ runs) (run ∷ runs)) off
 
-turn_idle : (device : DeviceSeen) (position n : ℕ) (book : MapBook) (runs : List Run) (gains faders : ℕ → Gain) (slot_gain : Gain) (bytes area : List ℕ) (sum : ℕ → Frame) → is_map_running book.state ≡ false → MapIsValid device position book runs
+turn_idle : (device : DeviceSeen) (position n : ℕ) (book : MapBook) (runs : List Run) (gains faders : ℕ → Gain) (slot_gain : Gain) (bytes area : List ℕ) (sum : ℕ → Frame) → is_running book.state ≡ false → MapIsValid device position book runs
     → ((k : ℕ) → k < n → IsMixedFrame device (sum k)) → MapTurn device position n book runs gains faders slot_gain bytes area sum
 turn_idle device position n book runs gains faders slot_gain bytes area sum off v s =
     let size : ℕ = channels_of (mix_settings device).layout in
@@ -53,7 +53,7 @@ turn_idle device position n book runs gains faders slot_gain bytes area sum off 
     rw none (block ∙ ap (λ (xs : List ℤ). mixed bits (take (0 * size) (flat_map sum (range_with_len 0 n))) xs ++ drop (0 * size) (flat_map sum (range_with_len 0 n))) (sym (faded-nothing (mix_settings device).layout slot_gain)))
 
 -- what a run gives at the positions of an interrupt, with what it takes
-given_at : (device : DeviceSeen) (gain : Gain) (position n k : ℕ) (book : MapBook) (area : List ℕ) (run : Run) (runs : List Run) → is_map_running book.state ≡ true → k < n
+given_at : (device : DeviceSeen) (gain : Gain) (position n k : ℕ) (book : MapBook) (area : List ℕ) (run : Run) (runs : List Run) → is_running book.state ≡ true → k < n
     → sounding device gain (map_playing device position n book area (run ∷ runs)) (position + k) ≡ Some (given_frame device run.settings (run_frames (map_played device position n book area run)) (book.given + k) gain)
 given_at device gain position n k book area run runs on h =
     let some : nat_lt 0 n ≡ true = grind (arith, nat_tests) in
@@ -61,7 +61,7 @@ given_at device gain position n k book area run runs on h =
     let index : book.given + (position + k - position) ≡ book.given + k = omega arith in
     rw (on, some, here, index) refl
 
-turn_running : (device : DeviceSeen) (position n : ℕ) (book : MapBook) (run : Run) (runs : List Run) (gains faders : ℕ → Gain) (slot_gain : Gain) (bytes area : List ℕ) (sum : ℕ → Frame) → IsDevice device → is_map_running book.state ≡ true
+turn_running : (device : DeviceSeen) (position n : ℕ) (book : MapBook) (run : Run) (runs : List Run) (gains faders : ℕ → Gain) (slot_gain : Gain) (bytes area : List ℕ) (sum : ℕ → Frame) → IsDevice device → is_running book.state ≡ true
     → MapIsValid device position book (run ∷ runs) → bytes ≡ run.bytes → ((k : ℕ) → k < n → gains k ≡ map_gain book) → ((k : ℕ) → k < n → faders k ≡ slot_gain)
     → ((k : ℕ) → k < n → IsMixedFrame device (sum k)) → MapTurn device position n book (run ∷ runs) gains faders slot_gain bytes area sum
 turn_running device position n book run runs gains faders slot_gain bytes area sum d on v is one loud s =
@@ -91,20 +91,20 @@ turn_running device position n book run runs gains faders slot_gain bytes area s
     (given_samples-faded device slot_gain (map_gain book) settings all book.given n d v.settings)
     ∙ ap (λ (c : ℕ). mixed bits (take (c * size) (flat_map sum (range_with_len 0 n))) (faded layout slot_gain (given_samples device (map_gain book) settings all book.given c)) ++ drop (c * size) (flat_map sum (range_with_len 0 n))) (sym count)
 
-turn_with : (device : DeviceSeen) (position n : ℕ) (book : MapBook) (runs : List Run) (gains faders : ℕ → Gain) (slot_gain : Gain) (bytes area : List ℕ) (sum : ℕ → Frame) → IsDevice device → is_map_running book.state ≡ true
+turn_with : (device : DeviceSeen) (position n : ℕ) (book : MapBook) (runs : List Run) (gains faders : ℕ → Gain) (slot_gain : Gain) (bytes area : List ℕ) (sum : ℕ → Frame) → IsDevice device → is_running book.state ≡ true
     → MapIsValid device position book runs → bytes ≡ newest_bytes runs → ((k : ℕ) → k < n → gains k ≡ map_gain book) → ((k : ℕ) → k < n → faders k ≡ slot_gain)
     → ((k : ℕ) → k < n → IsMixedFrame device (sum k)) → MapTurn device position n book runs gains faders slot_gain bytes area sum
 turn_with device position n book [] gains faders slot_gain bytes area sum d on v is one loud s = absurd (v.newest on)
 turn_with device position n book (run ∷ runs) gains faders slot_gain bytes area sum d on v is one loud s = turn_running device position n book run runs gains faders slot_gain bytes area sum d on v is one loud s
 
-turn_by : (b : Bool) (device : DeviceSeen) (position n : ℕ) (book : MapBook) (runs : List Run) (gains faders : ℕ → Gain) (slot_gain : Gain) (bytes area : List ℕ) (sum : ℕ → Frame) → is_map_running book.state ≡ b → IsDevice device
-    → MapIsValid device position book runs → (is_map_running book.state ≡ true → bytes ≡ newest_bytes runs) → ((k : ℕ) → k < n → gains k ≡ map_gain book) → ((k : ℕ) → k < n → faders k ≡ slot_gain)
+turn_by : (b : Bool) (device : DeviceSeen) (position n : ℕ) (book : MapBook) (runs : List Run) (gains faders : ℕ → Gain) (slot_gain : Gain) (bytes area : List ℕ) (sum : ℕ → Frame) → is_running book.state ≡ b → IsDevice device
+    → MapIsValid device position book runs → (is_running book.state ≡ true → bytes ≡ newest_bytes runs) → ((k : ℕ) → k < n → gains k ≡ map_gain book) → ((k : ℕ) → k < n → faders k ≡ slot_gain)
     → ((k : ℕ) → k < n → IsMixedFrame device (sum k)) → MapTurn device position n book runs gains faders slot_gain bytes area sum
 turn_by true device position n book runs gains faders slot_gain bytes area sum on d v is one loud s = turn_with device position n book runs gains faders slot_gain bytes area sum d on v (is on) one loud s
 turn_by false device position n book runs gains faders slot_gain bytes area sum off d v is one loud s = turn_idle device position n book runs gains faders slot_gain bytes area sum off v s
 
 -- What a mapped slot adds to the block of an interrupt is what its plan makes of the bytes that were taken of its area, at the gain of its fader, and no more.
 pub map-turn : (device : DeviceSeen) (position n : ℕ) (book : MapBook) (runs : List Run) (gains faders : ℕ → Gain) (slot_gain : Gain) (bytes area : List ℕ) (sum : ℕ → Frame) → IsDevice device
-    → MapIsValid device position book runs → (is_map_running book.state ≡ true → bytes ≡ newest_bytes runs) → ((k : ℕ) → k < n → gains k ≡ map_gain book) → ((k : ℕ) → k < n → faders k ≡ slot_gain)
+    → MapIsValid device position book runs → (is_running book.state ≡ true → bytes ≡ newest_bytes runs) → ((k : ℕ) → k < n → gains k ≡ map_gain book) → ((k : ℕ) → k < n → faders k ≡ slot_gain)
     → ((k : ℕ) → k < n → IsMixedFrame device (sum k)) → MapTurn device position n book runs gains faders slot_gain bytes area sum
-map-turn device position n book runs gains faders slot_gain bytes area sum d v is one loud s = turn_by (is_map_running book.state) device position n book runs gains faders slot_gain bytes area sum refl d v is one loud s
+map-turn device position n book runs gains faders slot_gain bytes area sum d v is one loud s = turn_by (is_running book.state) device position n book runs gains faders slot_gain bytes area sum refl d v is one loud s

@@ -15,10 +15,11 @@ use Rattle.pcm_wave.specs.Pools.{bytes_at}
 use Rattle.pcm_desk.specs.declared.device.Held.{Held}
 use Rattle.pcm_desk.specs.declared.limits.TheConstants.{DESCRIPTORS}
 use Rattle.pcm_desk.specs.declared.map_book.MapBook.{MapBook}
-use Rattle.pcm_desk.specs.declared.map_book.MapState.{MapState}
-use Rattle.pcm_desk.specs.declared.map_book.MapState.TheVariants.{Free, Setup, Running}
+use Rattle.pcm_desk.specs.declared.run_state.RunState.{RunState}
+use Rattle.pcm_desk.specs.declared.run_state.RunState.TheVariants.{Free, Setup, Running}
 use Rattle.pcm_desk.specs.Device.{DeviceSeen}
-use Rattle.pcm_desk.specs.MapBooks.{is_map_free, map_refilled_in}
+use Rattle.pcm_desk.specs.RunStates.{is_unheld}
+use Rattle.pcm_desk.specs.MapBooks.{map_refilled_in}
 use Rattle.pcm_desk.specs.Channels.{Channel, Mapped, channel_begun, map_mixing, map_rate_at, mixed_by, own_turn, ungrouped, is_free}
 use Rattle.pcm_desk.specs.Desk.{Desk, DeskTurn, after, channel_at, desk_at_start, grouping_at, held_by, map_at, open_turn, descriptors_after, channel_turn}
 use Rattle.pcm_desk.specs.Own.{GoesByDescriptor, HoldApart, descriptor_of, held_after}
@@ -112,9 +113,9 @@ own-goes device pool story event slot written goes =
 
 -- what an open takes was free
 taken_free : (device : DeviceSeen) (desk : Desk) (fd : ℕ) (way : Way) (settings : Settings) (slot : ℕ) → held_by desk fd ≡ None → held_by (open_turn desk fd way settings).desk fd ≡ Some (mapped_slot slot)
-    → is_map_free (map_at device desk slot).state ≡ true
+    → is_unheld (map_at device desk slot).state ≡ true
 taken_free device desk fd way settings slot shut =
-    by-opening (λ (turn : DeskTurn). held_by turn.desk fd ≡ Some (mapped_slot slot) → is_map_free (map_at device desk slot).state ≡ true) desk fd way settings
+    by-opening (λ (turn : DeskTurn). held_by turn.desk fd ≡ Some (mapped_slot slot) → is_unheld (map_at device desk slot).state ≡ true) desk fd way settings
     (λ mine e holds. let none : None ≡ Some (mapped_slot slot) = sym shut ∙ holds in cc)
     (λ _ holds. let none : None ≡ Some (mapped_slot slot) = sym shut ∙ holds in cc)
     (λ taken _ found holds. (let mine : Held = channel_named way taken in
@@ -122,14 +123,14 @@ taken_free device desk fd way settings slot shut =
 
 -- its book begins
 taken_begins : (device : DeviceSeen) (desk : Desk) (fd : ℕ) (way : Way) (settings : Settings) (slot : ℕ) → held_by desk fd ≡ None → held_by (open_turn desk fd way settings).desk fd ≡ Some (mapped_slot slot)
-    → is_map_free (map_at device (open_turn desk fd way settings).desk slot).state ≡ false
+    → is_unheld (map_at device (open_turn desk fd way settings).desk slot).state ≡ false
 taken_begins device desk fd way settings slot shut holds = by_way way (opened-begins device desk fd way settings (mapped_slot slot) shut holds)
   where
     new : MapBook
     new = map_at device (open_turn desk fd way settings).desk slot
 
-    by_way : (w : Way) → Mapped new ≡ channel_begun w settings → is_map_free new.state ≡ false
-    by_way Map begun = ap (λ (c : Channel). is_map_free (book_in new c).state) begun
+    by_way : (w : Way) → Mapped new ≡ channel_begun w settings → is_unheld new.state ≡ false
+    by_way Map begun = ap (λ (c : Channel). is_unheld (book_in new c).state) begun
     by_way Play begun = cc
     by_way Record begun = cc
 
@@ -211,7 +212,7 @@ named device pool story event fd n apart there = record {
 -- ---- an event of none
 
 -- an interrupt leaves each area
-silences_none : (device : DeviceSeen) (state : MapState) (n : ℕ) (book : MapBook) → book.state ≡ state → silences book (map_refilled_in (map_rate_at device book) state n book) ≡ false
+silences_none : (device : DeviceSeen) (state : RunState) (n : ℕ) (book : MapBook) → book.state ≡ state → silences book (map_refilled_in (map_rate_at device book) state n book) ≡ false
 silences_none device Free n book e = area-kept book
 silences_none device Setup n book e = area-kept book
 silences_none device Running n book e = area-kept book

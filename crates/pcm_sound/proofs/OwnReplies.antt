@@ -18,11 +18,12 @@ use Rattle.pcm_desk.specs.declared.play_book.PlayBook.{PlayBook}
 use Rattle.pcm_desk.specs.declared.map_book.MapBook.{MapBook}
 use Rattle.pcm_desk.specs.declared.device.Held.{Held}
 use Rattle.pcm_desk.specs.declared.record_book.RecordBook.{RecordBook}
-use Rattle.pcm_desk.specs.declared.record_book.RecordState.{RecordState}
-use Rattle.pcm_desk.specs.declared.record_book.RecordState.TheVariants.{Free, Setup, Running}
+use Rattle.pcm_desk.specs.declared.run_state.RunState.{RunState}
+use Rattle.pcm_desk.specs.declared.run_state.RunState.TheVariants.{Free, Setup, Running}
 use Rattle.pcm_desk.specs.Device.{DeviceSeen, record_rate_between}
 use Rattle.pcm_desk.specs.RecordBooks as records
-use Rattle.pcm_desk.specs.RecordBooks.{captured, is_running, read_turn, record_fill_of}
+use Rattle.pcm_desk.specs.RunStates.{is_running}
+use Rattle.pcm_desk.specs.RecordBooks.{captured, read_turn, record_fill_of}
 use Rattle.pcm_desk.specs.RecordRequests.{record_ask}
 use Rattle.pcm_desk.specs.RecordSafe.{RecordIsSafe}
 use Rattle.pcm_desk.specs.Channels.{Channel, Mapped, Playing, Recording, by_way, capturing, channel_begun, own_turn, record_rate_at, ungrouped}
@@ -255,7 +256,7 @@ runs (Playing book) = false
 runs (Mapped book) = false
 runs (Recording book) = is_running book.state
 
-captured_settings : (state : RecordState) (device : DeviceSeen) (n : ℕ) (book : RecordBook) → (records.captured_in (record_rate_at device book) state n book).opening.settings ≡ book.opening.settings
+captured_settings : (state : RunState) (device : DeviceSeen) (n : ℕ) (book : RecordBook) → (records.captured_in (record_rate_at device book) state n book).opening.settings ≡ book.opening.settings
 captured_settings Free device n book = refl
 captured_settings Setup device n book = refl
 captured_settings Running device n book = refl

@@ -14,7 +14,8 @@ use Rattle.pcm_desk.specs.declared.play_book.PlayBook.{PlayBook}
 use Rattle.pcm_desk.specs.declared.record_book.RecordBook.{RecordBook}
 use Rattle.pcm_desk.specs.declared.map_book.MapBook.{MapBook}
 use Rattle.pcm_desk.specs.Device.{DeviceSeen}
-use Rattle.pcm_desk.specs.RecordBooks.{is_running, keeping}
+use Rattle.pcm_desk.specs.RunStates.{is_running}
+use Rattle.pcm_desk.specs.RecordBooks.{keeping}
 use Rattle.pcm_desk.specs.Channels.{record_rate_at}
 use Rattle.pcm_desk.specs.Desk.{Desk, after, held_by, map_at, play_at, record_at}
 use Rattle.pcm_desk.specs.Events.{Fits}

@@ -20,11 +20,12 @@ use Rattle.pcm_rate.specs.Rates.{can}
 use Rattle.pcm_desk.specs.declared.turn.Turn.{Turn}
 use Rattle.pcm_desk.specs.declared.device.Held.{Held}
 use Rattle.pcm_desk.specs.declared.record_book.RecordBook.{RecordBook}
-use Rattle.pcm_desk.specs.declared.record_book.RecordState.{RecordState}
-use Rattle.pcm_desk.specs.declared.record_book.RecordState.TheVariants.{Free, Setup, Running}
+use Rattle.pcm_desk.specs.declared.run_state.RunState.{RunState}
+use Rattle.pcm_desk.specs.declared.run_state.RunState.TheVariants.{Free, Setup, Running}
 use Rattle.pcm_desk.specs.Device.{DeviceSeen, IsDevice, device_settings, record_rate_between, record_slots, here_at}
 use Rattle.pcm_desk.specs.RecordBooks as records
-use Rattle.pcm_desk.specs.RecordBooks.{captures, is_running, record_begun, record_fill_of}
+use Rattle.pcm_desk.specs.RunStates.{is_running}
+use Rattle.pcm_desk.specs.RecordBooks.{captures, record_begun, record_fill_of}
 use Rattle.pcm_desk.specs.RecordRequests.{record_ask}
 use Rattle.pcm_desk.specs.RecordSafe.{IsRecordInOrder, IsRecordUnstarted, RecordIsSafe}
 use Rattle.pcm_desk.specs.Channels.{both_bits, record_rate_at, own_request, own_join, own_turn, Grouping, Channel, channel_begun, member_refusal}
@@ -66,7 +67,7 @@ turned-same device book rate safe = record {
 }
 
 -- a channel that hadn't started counts nothing
-pub idle-unstarted : (state : RecordState) (book : RecordBook) → is_running state ≡ false → IsRecordInOrder state book → IsRecordUnstarted book
+pub idle-unstarted : (state : RunState) (book : RecordBook) → is_running state ≡ false → IsRecordInOrder state book → IsRecordUnstarted book
 idle-unstarted Free book idle o = o
 idle-unstarted Setup book idle o = o
 idle-unstarted Running book idle o = cc
@@ -262,7 +263,7 @@ read_desk device pool desk fd count slot recording v =
     (read-own device pool desk.handed fd count (nat_lt 0 count && eqb (record_fill_of old) 0) old recording v (record-safe-read (record_rate_at device old) count old v.safe))
     (λ at way settings is same free. cc) (λ at group is member. cc)
 
-captured_at : (device : DeviceSeen) (pool : Pool) (handed n : ℕ) (state : RecordState) (book : RecordBook) (recording : Recording) → book.state ≡ state → IsDevice device → IsCaptureIn (device_settings device).layout pool
+captured_at : (device : DeviceSeen) (pool : Pool) (handed n : ℕ) (state : RunState) (book : RecordBook) (recording : Recording) → book.state ≡ state → IsDevice device → IsCaptureIn (device_settings device).layout pool
     → RecordingIsValid device pool handed book recording
     → let new : RecordBook = records.captured_in (record_rate_at device book) state n book in
     RecordingIsValid device pool (handed + n) new (cond (not (is_running state) && is_running new.state) (recording_from handed) (cond (is_running state) (recordings.keeps device pool n book recording) recording))
@@ -271,7 +272,7 @@ captured_at device pool handed n Free book recording e d is v =
 captured_at device pool handed n Setup book recording e d is v =
     record { settings = v.settings; safe = v.safe; running = λ running. absurd (let clash : false ≡ true = sym (ap is_running e) ∙ running in cc) }
 captured_at device pool handed n Running book recording e d is v =
-    let went : records.captured (record_rate_at device book) n book ≡ captures (record_rate_at device book) n book = ap (λ (s : RecordState). records.captured_in (record_rate_at device book) s n book) e in
+    let went : records.captured (record_rate_at device book) n book ≡ captures (record_rate_at device book) n book = ap (λ (s : RunState). records.captured_in (record_rate_at device book) s n book) e in
     record {
       settings = v.settings;
       safe = subst (RecordIsSafe (record_rate_at device book)) went (record-safe-captured (record_rate_at device book) n book v.safe);

@@ -4,11 +4,10 @@ use Rattle.std.specs.Prelude.{IfSome, not}
 use Rattle.std.specs.List.{range_with_len, flat_map}
 use Rattle.std.proofs.lemmas.Bool.{and_parts}
 use Rattle.std.proofs.lemmas.Bool.Decides.{nat_tests}
-use Rattle.std.proofs.lemmas.List.{take-append-le}
+use Rattle.std.proofs.lemmas.List.{take-append-le, get_or-drop}
 use Rattle.std.proofs.lemmas.List.Concat.{flat_map-append}
 use Rattle.std.proofs.lemmas.List.Elements.{All-drop, All-head, All-nil, All-tail}
 use Rattle.std.proofs.lemmas.Int.{ints}
-use Rattle.std.proofs.lemmas.List.{get_or-drop}
 use Rattle.std.proofs.lemmas.List.FromFn.{get_or-map-range_with_len}
 use Rattle.pcm_format.specs.declared.settings.Settings.{Settings}
 use Rattle.pcm_format.specs.declared.format.Format.{Format}
@@ -33,7 +32,7 @@ use Rattle.pcm_plan.specs.Plans.{PlanSeen, rate_in_plan}
 use Rattle.pcm_plan.specs.Through.{rec, recs}
 use Rattle.pcm_plan.proofs.Fits.{ratio-in}
 use Rattle.pcm_plan.proofs.Through.{length-outs, need_through-rate, outs-add, outs-channels, through-local}
-use Rattle.pcm_desk.specs.Device.{DeviceSeen, IsDevice, device_settings, filters_of, record_plan_between, record_rate_between}
+use Rattle.pcm_desk.specs.Device.{DeviceSeen, IsDevice, device_settings, device_filters, record_plan_between, record_rate_between}
 use Rattle.pcm_desk.proofs.Ratios.{record-plan-between-fits}
 use Rattle.pcm_desk.specs.declared.record_book.RecordBook.{RecordBook}
 use Rattle.pcm_desk.specs.RecordBooks.{captures, coming, keeping}
@@ -61,8 +60,8 @@ captured-there device pool start n (pos k) below =
 
 -- a frame that they allow is that of all that is recorded
 rec-captured : (device : DeviceSeen) (pool : Pool) (settings : Settings) (start n k : ℕ) → IsDevice device → IsRate settings.rate → k < can (record_rate_between device settings) n
-    → rec (record_plan_between device settings) (filters_of device) (captured_frames (device_settings device).layout pool start n) k
-    ≡ rec (record_plan_between device settings) (filters_of device) (recorded_frames pool start) k
+    → rec (record_plan_between device settings) (device_filters device) (captured_frames (device_settings device).layout pool start n) k
+    ≡ rec (record_plan_between device settings) (device_filters device) (recorded_frames pool start) k
 rec-captured device pool settings start n k d s allowed =
     let plan : PlanSeen = record_plan_between device settings in
     let is = record-plan-between-fits device settings d s in
@@ -71,7 +70,7 @@ rec-captured device pool settings start n k d s allowed =
     let ratio = ratio-in plan is in
     let first : k + 1 ≤ can rate n = omega arith in
     let fits : need rate (k + 1) ≤ n = (can-greatest rate ratio.src ratio.dst (k + 1) n).1 first in
-    through-local (filters_of device) unity plan.stages (stream_of c (captured_frames (device_settings device).layout pool start n)) (stream_of c (recorded_frames pool start)) (k + 1) is.specs
+    through-local (device_filters device) unity plan.stages (stream_of c (captured_frames (device_settings device).layout pool start n)) (stream_of c (recorded_frames pool start)) (k + 1) is.specs
     (λ place below. captured-there device pool start n place (omega (arith, ints, need_through-rate plan.stages (k + 1) is.one_rate))) (pos k) (omega (arith, ints))
 
 -- so are the bytes of several
@@ -80,8 +79,8 @@ pub recorded-captured : (device : DeviceSeen) (pool : Pool) (settings : Settings
     ≡ recorded_bytes device settings (recorded_frames pool start) from count
 recorded-captured device pool settings start n from count d s allowed =
     let none : from + 0 ≡ from = omega arith in
-    let before : ℕ → Frame = rec (record_plan_between device settings) (filters_of device) (captured_frames (device_settings device).layout pool start n) in
-    let after : ℕ → Frame = rec (record_plan_between device settings) (filters_of device) (recorded_frames pool start) in
+    let before : ℕ → Frame = rec (record_plan_between device settings) (device_filters device) (captured_frames (device_settings device).layout pool start n) in
+    let after : ℕ → Frame = rec (record_plan_between device settings) (device_filters device) (recorded_frames pool start) in
     ap (spelled_frames settings.format) (ap (λ s. map before (range_with_len s count)) (sym none)
     ∙ sym (map-range-shift before from 0 count)
     ∙ map-range-same (λ j. before (from + j)) (λ j. after (from + j)) count (λ j below. rec-captured device pool settings start n (from + j) d s (omega arith))
@@ -103,17 +102,17 @@ pub length-recorded : (device : DeviceSeen) (settings : Settings) (frames : List
     → length (recorded_bytes device settings frames from count) ≡ count * frame_bytes settings
 length-recorded device settings frames from count d s have =
     let plan : PlanSeen = record_plan_between device settings in
-    let list : List Frame = recs plan (filters_of device) frames from count in
-    length-spelled_all settings.format (channels_of settings.layout) list (outs-channels plan (filters_of device) unity frames from count (record-plan-between-fits device settings d s) have)
-    ∙ ap (λ n. n * frame_bytes settings) (length-outs plan (filters_of device) unity frames from count)
+    let list : List Frame = recs plan (device_filters device) frames from count in
+    length-spelled_all settings.format (channels_of settings.layout) list (outs-channels plan (device_filters device) unity frames from count (record-plan-between-fits device settings d s) have)
+    ∙ ap (λ n. n * frame_bytes settings) (length-outs plan (device_filters device) unity frames from count)
 
 -- what is recorded in two parts
 pub recorded-add : (device : DeviceSeen) (settings : Settings) (frames : List Frame) (from n m : ℕ)
     → recorded_bytes device settings frames from (n + m) ≡ recorded_bytes device settings frames from n ++ recorded_bytes device settings frames (from + n) m
 recorded-add device settings frames from n m =
     let plan : PlanSeen = record_plan_between device settings in
-    ap (spelled_frames settings.format) (outs-add plan (filters_of device) unity frames from n m)
-    ∙ flat_map-append (spelled_frame settings.format) (recs plan (filters_of device) frames from n) (recs plan (filters_of device) frames (from + n) m)
+    ap (spelled_frames settings.format) (outs-add plan (device_filters device) unity frames from n m)
+    ∙ flat_map-append (spelled_frame settings.format) (recs plan (device_filters device) frames from n) (recs plan (device_filters device) frames (from + n) m)
 
 -- what may be recorded has the channels of its layout
 pub capture-channels : (layout : Layout) (pool : Pool) → IsCaptureIn layout pool → HaveChannels (channels_of layout) (capture_frames pool)

@@ -17,7 +17,7 @@ use Rattle.pcm_feeder.specs.Limits.{IsRate}
 use Rattle.pcm_plan.proofs.Through.{out-append}
 use Rattle.pcm_desk.proofs.Ratios.{plan-between-fits}
 use Rattle.pcm_desk.specs.declared.play_book.PlayBook.{PlayBook}
-use Rattle.pcm_desk.specs.Device.{DeviceSeen, IsDevice, filters_of, play_plan_between, play_rate_between}
+use Rattle.pcm_desk.specs.Device.{DeviceSeen, IsDevice, device_filters, play_plan_between, play_rate_between}
 use Rattle.pcm_desk.specs.PlayBooks.{giving, is_draining, is_started}
 use Rattle.pcm_desk.specs.Channels.{play_rate_at}
 use Rattle.pcm_sound.specs.Given.{given_frame}
@@ -60,7 +60,7 @@ pub given_frame-append : (device : DeviceSeen) (gain : Gain) (settings : Setting
     → given_frame device settings (frames settings (bytes ++ more)) k gain ≡ given_frame device settings (frames settings bytes) k gain
 given_frame-append device gain settings bytes more k d s h =
     ap (λ (list : List Frame). given_frame device settings list k gain) (frames-append settings bytes more)
-    ∙ out-append (play_plan_between device settings) (filters_of device) (frames settings bytes) (frames_added settings bytes more) k gain (plan-between-fits device settings d s)
+    ∙ out-append (play_plan_between device settings) (device_filters device) (frames settings bytes) (frames_added settings bytes more) k gain (plan-between-fits device settings d s)
     (subst (λ n. k < can (play_rate_between device settings) n) (sym (length-frames settings bytes)) h)
 
 -- a piece of the past doesn't cover a position from now on

@@ -17,15 +17,15 @@ use Rattle.pcm_desk.specs.declared.play_book.PlayBook.{PlayBook}
 use Rattle.pcm_desk.specs.declared.play_book.PlayState.{PlayState}
 use Rattle.pcm_desk.specs.declared.play_book.PlayState.TheVariants.{Free, Setup, Primed, Running, Draining}
 use Rattle.pcm_desk.specs.declared.record_book.RecordBook.{RecordBook}
-use Rattle.pcm_desk.specs.declared.record_book.RecordState.{RecordState}
-use Rattle.pcm_desk.specs.declared.record_book.RecordState.TheVariants as record_states
+use Rattle.pcm_desk.specs.declared.run_state.RunState.{RunState}
+use Rattle.pcm_desk.specs.declared.run_state.RunState.TheVariants as run_states
 use Rattle.pcm_desk.specs.declared.turn.Turn.{Turn}
 use Rattle.pcm_desk.specs.BookTurns.{doing, refused}
 use Rattle.pcm_desk.specs.Device.{DeviceSeen, IsDevice}
 use Rattle.pcm_desk.specs.PlayBooks.{frames_written, is_draining, is_primed, is_started, play_is_ready, started_at}
 use Rattle.pcm_desk.specs.PlayRequests.{play_roused_in, play_with_trigger}
 use Rattle.pcm_desk.specs.PlaySafe.{IsPlayInOrder}
-use Rattle.pcm_desk.specs.RecordBooks.{is_record_setup, is_running}
+use Rattle.pcm_desk.specs.RunStates.{is_in_setup, is_running}
 use Rattle.pcm_desk.specs.RecordRequests.{record_roused_in, record_with_trigger}
 use Rattle.pcm_desk.specs.Channels.{play_rate_at, play_starting, record_starting}
 use Rattle.pcm_desk.specs.Desk.{Desk, DeskTurn, after, desk_here, group_started, held_by, play_at, play_unopened, record_at}
@@ -79,13 +79,13 @@ waiting_run device mixed book (run ∷ runs) placed some stopped = ((placed.2 so
 
 -- ---- a member that records
 
-setup_of : (state : RecordState) → is_record_setup state ≡ true → state ≡ record_states.Setup
-setup_of record_states.Setup e = refl
-setup_of record_states.Free e = cc
-setup_of record_states.Running e = cc
+setup_of : (state : RunState) → is_in_setup state ≡ true → state ≡ run_states.Setup
+setup_of run_states.Setup e = refl
+setup_of run_states.Free e = cc
+setup_of run_states.Running e = cc
 
-record_started_rest : (book : RecordBook) → book.state ≡ record_states.Setup → record_starting book ≡ record (record_with_trigger true book) { state = record_states.Running }
-record_started_rest book rests = ap (λ (s : RecordState). record_roused_in s (record_with_trigger true book)) rests
+record_started_rest : (book : RecordBook) → book.state ≡ run_states.Setup → record_starting book ≡ record (record_with_trigger true book) { state = run_states.Running }
+record_started_rest book rests = ap (λ (s : RunState). record_roused_in s (record_with_trigger true book)) rests
 
 -- ---- all members
 
@@ -100,7 +100,7 @@ begun device pool story fd group v waits used ready after is new desk_is runs_ar
   idle = λ slot m. ap is_running (rests slot m);
   running = λ slot m. ap (λ (d : Desk). is_running (record_at device d slot).state) desk_is ∙ records_now slot m;
   recorded = λ slot m.
-      let begins : starts_recording (record_at device story.desk slot) (record_at device after slot) ≡ true = ap (λ (s : RecordState). not (is_running s) && is_running (record_at device after slot).state) (rests slot m) ∙ records_now slot m in
+      let begins : starts_recording (record_at device story.desk slot) (record_at device after slot) ≡ true = ap (λ (s : RunState). not (is_running s) && is_running (record_at device after slot).state) (rests slot m) ∙ records_now slot m in
       recordings_are slot ∙ ap (λ (b : Bool). cond b (recording_from story.desk.handed) (story.recordings slot)) begins;
 }
   where
@@ -135,7 +135,7 @@ begun device pool story fd group v waits used ready after is new desk_is runs_ar
         ∙ ap (λ (b : Bool). cond b (play_starting device here (old slot)) (old slot)) (is-this (get_or story.desk.groups.play slot 0) group m)
         ∙ started_ready device here (old slot) (primed slot m) (and_parts (is_primed (old slot).state) (nat_lt 0 (frames_written (old slot))) (is_ready slot m)).1)
 
-    rests : (slot : ℕ) → group_at story.desk.groups Record slot ≡ group → (record_at device story.desk slot).state ≡ record_states.Setup
+    rests : (slot : ℕ) → group_at story.desk.groups Record slot ≡ group → (record_at device story.desk slot).state ≡ run_states.Setup
     rests slot m =
         let held : Held = record { way = Record; slot = slot } in
         setup_of (record_at device story.desk slot).state (waits held (member (group_at story.desk.groups Record slot) m)).0

@@ -13,8 +13,8 @@ use Rattle.pcm_feeder.specs.declared.stage.Gain.{Gain}
 use Rattle.pcm_feeder.specs.Layouts.{at_gain}
 use Rattle.pcm_feeder.specs.Limits.{IsRate}
 use Rattle.pcm_mix.specs.Mix.{mixed}
-use Rattle.pcm_mixdev.specs.Fades.{faded}
-use Rattle.pcm_mixdev.proofs.FadedFrames.{faded-joined, faded-nothing, length-at_gain}
+use Rattle.pcm_feeder.specs.Fades.{faded}
+use Rattle.pcm_feeder.proofs.FadedFrames.{faded-joined, faded-nothing, length-at_gain}
 use Rattle.pcm_desk.specs.declared.play_book.PlayBook.{PlayBook}
 use Rattle.pcm_desk.specs.Device.{DeviceSeen, IsDevice, mix_settings}
 use Rattle.pcm_desk.specs.PlayBooks.{giving, is_started}

@@ -4,12 +4,12 @@ use Rattle.pcm_format.specs.Formats.{bits_of}
 use Rattle.pcm_format.specs.Layouts.{channels_of}
 use Rattle.pcm_feeder.specs.declared.stage.Gain.{Gain}
 use Rattle.pcm_mix.specs.Mix.{mixed}
-use Rattle.pcm_mixdev.specs.Fades.{faded}
+use Rattle.pcm_feeder.specs.Fades.{faded}
 use Rattle.pcm_desk.specs.declared.play_book.PlayBook.{PlayBook}
 use Rattle.pcm_desk.specs.declared.map_book.MapBook.{MapBook}
 use Rattle.pcm_desk.specs.Device.{DeviceSeen, mix_settings}
 use Rattle.pcm_desk.specs.PlayBooks.{giving}
-use Rattle.pcm_desk.specs.MapBooks.{is_map_running}
+use Rattle.pcm_desk.specs.RunStates.{is_running}
 use Rattle.pcm_desk.specs.Channels.{play_rate_at}
 use Rattle.pcm_sound.specs.Gains.{book_gain, map_gain}
 use Rattle.pcm_sound.specs.Given.{given_samples}
@@ -27,7 +27,7 @@ turned device n gain book bytes sum =
 
 -- how many of n frames a mapped book gives to the mix: all of them, once it has started
 abbrev pub map_giving : ℕ → MapBook → ℕ
-map_giving n book = if is_map_running book.state then n else 0
+map_giving n book = if is_running book.state then n else 0
 
 -- the block once a mapped channel gave its next frames, at the gain of its slot, from what the device took of its area before and takes now
 abbrev pub map_turned : DeviceSeen → ℕ → Gain → MapBook → List ℕ → List ℕ → List ℤ → List ℤ

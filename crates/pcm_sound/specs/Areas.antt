@@ -14,7 +14,7 @@ use Rattle.pcm_desk.specs.declared.device.Held.{Held}
 use Rattle.pcm_desk.specs.declared.map_book.MapBook.{MapBook}
 use Rattle.pcm_desk.specs.declared.opening.Opening.{Opening}
 use Rattle.pcm_desk.specs.Openings.{ring_bytes}
-use Rattle.pcm_desk.specs.MapBooks.{is_map_free}
+use Rattle.pcm_desk.specs.RunStates.{is_unheld}
 use Rattle.pcm_desk.specs.Channels.{by_way}
 use Rattle.pcm_desk.specs.Desk.{Desk, held_by}
 
@@ -45,7 +45,7 @@ is_recut old new =
 
 -- an opening begins in a slot that was free
 abbrev pub begins_map : MapBook → MapBook → Bool
-begins_map old new = is_map_free old.state && not (is_map_free new.state)
+begins_map old new = is_unheld old.state && not (is_unheld new.state)
 
 -- the area of a slot becomes silent
 abbrev pub silences : MapBook → MapBook → Bool

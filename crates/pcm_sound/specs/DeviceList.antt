@@ -10,7 +10,7 @@ use Rattle.pcm_format.specs.Frames.{Frame, spelled_frames}
 use Rattle.pcm_feeder.specs.Layouts.{at_gain}
 use Rattle.pcm_feeder.specs.Streams.{silence}
 use Rattle.pcm_plan.specs.Through.{recs}
-use Rattle.pcm_desk.specs.Device.{DeviceSeen, device_settings, filters_of, full_frame, mix_settings, mixed_for, mixed_slots, parent_plan, ring_frames}
+use Rattle.pcm_desk.specs.Device.{DeviceSeen, device_settings, device_filters, full_frame, mix_settings, mixed_for, mixed_slots, parent_plan, ring_frames}
 use Rattle.pcm_sound.specs.Gains.{Faders, last_gain, master_gain_at, slot_gain_at}
 use Rattle.pcm_sound.specs.Runs.{sounding}
 use Rattle.pcm_sound.specs.Story.{Story, mixed_gains, mixed_runs, story_of}
@@ -45,7 +45,7 @@ mixed_frames device mix count = map (λ position. full_frame device (mix positio
 -- `count` frames of the device from frame `from` on, once it has been given `handed`: what the parent's plan makes of all mixed by then
 abbrev pub device_frames : DeviceSeen → (ℕ → Frame) → ℕ → ℕ → ℕ → List Frame
 device_frames device mix handed from count =
-    recs (parent_plan device) (filters_of device) (mixed_frames device mix (mixed_for device handed)) from count
+    recs (parent_plan device) (device_filters device) (mixed_frames device mix (mixed_for device handed)) from count
 
 -- the frames of the device once it has been given `handed`: its ring begins as silence
 abbrev pub device_list : DeviceSeen → Faders → Table → ℕ → List Frame

@@ -7,7 +7,7 @@ use Rattle.pcm_mixdev.specs.Mixers.{Levels, master_gain, slot_gain}
 use Rattle.pcm_desk.specs.declared.play_book.PlayBook.{PlayBook}
 use Rattle.pcm_desk.specs.declared.map_book.MapBook.{MapBook}
 use Rattle.pcm_desk.specs.PlayBooks.{is_play_free}
-use Rattle.pcm_desk.specs.MapBooks.{is_map_free}
+use Rattle.pcm_desk.specs.RunStates.{is_unheld}
 
 -- a gain, and how many frames were mixed when it was set
 pub record GainSet : Type 0 where
@@ -23,7 +23,7 @@ abbrev pub play_loudness : PlayBook → Loudness
 play_loudness book = record { free = is_play_free book.state; volume = book.volume }
 
 abbrev pub map_loudness : MapBook → Loudness
-map_loudness book = record { free = is_map_free book.state; volume = book.volume }
+map_loudness book = record { free = is_unheld book.state; volume = book.volume }
 
 -- the gain of a volume
 abbrev pub loudness_gain : Loudness → Gain

@@ -4,7 +4,8 @@ use Rattle.pcm_oss.specs.declared.event.Event.{Event}
 use Rattle.pcm_oss.specs.declared.event.Event.TheVariants.{Intr}
 use Rattle.pcm_desk.specs.declared.map_book.MapBook.{MapBook}
 use Rattle.pcm_desk.specs.Device.{DeviceSeen}
-use Rattle.pcm_desk.specs.MapBooks.{is_map_running, taken_of}
+use Rattle.pcm_desk.specs.RunStates.{is_running}
+use Rattle.pcm_desk.specs.MapBooks.{taken_of}
 use Rattle.pcm_desk.specs.Channels.{map_mixing, mixed_by}
 use Rattle.pcm_desk.specs.Desk.{Desk}
 use Rattle.pcm_sound.specs.Areas.{area_bytes}
@@ -33,7 +34,7 @@ map_played device position n book area run = record run {
 abbrev pub map_playing : DeviceSeen → ℕ → ℕ → MapBook → List ℕ → List Run → List Run
 map_playing device position n book area [] = []
 map_playing device position n book area (run ∷ runs) =
-    if is_map_running book.state && nat_lt 0 n then map_played device position n book area run ∷ runs else run ∷ runs
+    if is_running book.state && nat_lt 0 n then map_played device position n book area run ∷ runs else run ∷ runs
 
 -- the newest run of a slot stops; it isn't drained
 abbrev pub map_stopped : ℕ → List Run → List Run
@@ -42,11 +43,11 @@ map_stopped position (run ∷ runs) = record run { dropped = Some position } ∷
 
 -- a slot starts: it wasn't running before, and is now
 abbrev pub map_starts : MapBook → MapBook → Bool
-map_starts old new = not (is_map_running old.state) && is_map_running new.state
+map_starts old new = not (is_running old.state) && is_running new.state
 
 -- a slot stops: it was running before, and isn't now
 abbrev pub map_ends : MapBook → MapBook → Bool
-map_ends old new = is_map_running old.state && not (is_map_running new.state)
+map_ends old new = is_running old.state && not (is_running new.state)
 
 -- a run begins where the book starts, and ends where it left Running
 abbrev pub map_marking : ℕ → MapBook → MapBook → List Run → List Run

@@ -4,7 +4,7 @@ use Rattle.pcm_desk.specs.declared.play_book.PlayBook.{PlayBook}
 use Rattle.pcm_desk.specs.declared.map_book.MapBook.{MapBook}
 use Rattle.pcm_desk.specs.Device.{DeviceSeen}
 use Rattle.pcm_desk.specs.PlayBooks.{is_started}
-use Rattle.pcm_desk.specs.MapBooks.{is_map_running}
+use Rattle.pcm_desk.specs.RunStates.{is_running}
 use Rattle.pcm_sound.specs.Runs.{Piece, Run}
 use Rattle.pcm_sound.specs.Plain.{IsUnbroken, lasting, run_end}
 
@@ -79,4 +79,4 @@ MapArePlaced device mixed book running (run ∷ runs) =
 
 -- where the runs of a mapped slot stand, before a position
 abbrev pub MapIsPlaced : DeviceSeen → ℕ → MapBook → List Run → Type 0
-MapIsPlaced device mixed book runs = MapArePlaced device mixed book (is_map_running book.state) runs
+MapIsPlaced device mixed book runs = MapArePlaced device mixed book (is_running book.state) runs

@@ -8,7 +8,7 @@ use Rattle.pcm_rate.specs.Rates.{len}
 use Rattle.pcm_feeder.specs.declared.stage.Gain.{Gain}
 use Rattle.pcm_plan.specs.Plans.{PlanSeen}
 use Rattle.pcm_plan.specs.Through.{out}
-use Rattle.pcm_desk.specs.Device.{DeviceSeen, filters_of, play_plan_between, play_rate_between}
+use Rattle.pcm_desk.specs.Device.{DeviceSeen, device_filters, play_plan_between, play_rate_between}
 use Rattle.pcm_sound.specs.Gains.{last_gain, master_gain_at, slot_gain_at}
 use Rattle.pcm_sound.specs.Runs.{Piece, Run, covers, run_frames}
 use Rattle.pcm_sound.specs.Story.{Story, mixed_gains, mixed_runs, story_of}
@@ -62,7 +62,7 @@ span_at spans position = find (is_within position) spans
 
 -- the frame of a span at a position: as far into its stream as the position is past its start
 abbrev pub span_frame : DeviceSeen → Gain → ℕ → Span → Frame
-span_frame device gain position span = out span.plan (filters_of device) span.stream (position - span.start) gain
+span_frame device gain position span = out span.plan (device_filters device) span.stream (position - span.start) gain
 
 -- what the runs of a story give, by where they start and end alone
 abbrev pub plain_table : DeviceSeen → Story → Table

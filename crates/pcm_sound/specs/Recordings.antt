@@ -7,7 +7,8 @@ use Rattle.pcm_wave.specs.Pools.{capture_frames}
 use Rattle.pcm_format.specs.Frames.{Frame}
 use Rattle.pcm_desk.specs.declared.record_book.RecordBook.{RecordBook}
 use Rattle.pcm_desk.specs.Device.{DeviceSeen}
-use Rattle.pcm_desk.specs.RecordBooks.{coming, is_running, keeping, record_fill_of}
+use Rattle.pcm_desk.specs.RunStates.{is_running}
+use Rattle.pcm_desk.specs.RecordBooks.{coming, keeping, record_fill_of}
 use Rattle.pcm_desk.specs.Channels.{record_rate_at}
 use Rattle.pcm_desk.specs.Desk.{Desk}
 use Rattle.pcm_sound.specs.Given.{recorded_bytes}

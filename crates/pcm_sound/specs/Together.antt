@@ -3,7 +3,7 @@ use Rattle.std.specs.Prelude.{◌≡◌, ℕ, true, false, List, [], ◌∷◌, 
 use Rattle.pcm_oss.specs.declared.event.Way.TheVariants.{Play, Record}
 use Rattle.pcm_group.specs.Groups.{group_at}
 use Rattle.pcm_desk.specs.Device.{DeviceSeen}
-use Rattle.pcm_desk.specs.RecordBooks.{is_running}
+use Rattle.pcm_desk.specs.RunStates.{is_running}
 use Rattle.pcm_desk.specs.Desk.{record_at}
 use Rattle.pcm_sound.specs.Runs.{Run}
 use Rattle.pcm_sound.specs.Recordings.{recording_from}

@@ -10,10 +10,10 @@ use Rattle.pcm_desk.specs.Device.{DeviceSeen, IsDevice, mixed_for, play_rate_bet
 use Rattle.pcm_desk.specs.PlayBooks.{is_draining, is_started}
 use Rattle.pcm_desk.specs.PlaySafe.{PlayIsHere, PlayIsSafe}
 use Rattle.pcm_desk.specs.declared.map_book.MapBook.{MapBook}
-use Rattle.pcm_desk.specs.MapBooks.{is_map_running, taken_of}
+use Rattle.pcm_desk.specs.RunStates.{is_running}
+use Rattle.pcm_desk.specs.MapBooks.{taken_of}
 use Rattle.pcm_desk.specs.MapSafe.{MapIsSafe}
 use Rattle.pcm_desk.specs.declared.record_book.RecordBook.{RecordBook}
-use Rattle.pcm_desk.specs.RecordBooks.{is_running}
 use Rattle.pcm_desk.specs.RecordSafe.{RecordIsSafe}
 use Rattle.pcm_desk.specs.Channels.{map_rate_at, play_rate_at, record_rate_at}
 use Rattle.pcm_desk.specs.Desk.{desk_here, map_at, play_at, record_at}
@@ -72,7 +72,7 @@ MapIsNewest book (run ∷ runs) =
 pub record MapIsValid (device : DeviceSeen) (mixed : ℕ) (book : MapBook) (runs : List Run) : Type 0 where
   pub settings : IsRate book.opening.settings.rate
   pub safe : MapIsSafe (map_rate_at device book) book
-  pub newest : is_map_running book.state ≡ true → MapIsNewest book runs
+  pub newest : is_running book.state ≡ true → MapIsNewest book runs
   pub pieces : All (RunIsValid device mixed) runs
   pub own : All HasRate runs
   pub placed : MapIsPlaced device mixed book runs

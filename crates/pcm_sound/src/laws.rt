@@ -22,7 +22,7 @@ ghost use Rattle.pcm_desk.specs.Own.{HoldApart, MembersWait, descriptor_of};
 ghost use Rattle.pcm_desk.specs.OwnEvents.{JoinsNone, Opens, closes, own_events};
 ghost use Rattle.pcm_desk.specs.MapRequests.{map_ask};
 ghost use Rattle.pcm_desk.specs.Events.{Fits, IsDescriptor};
-ghost use Rattle.pcm_desk.specs.RecordBooks.{is_running};
+ghost use Rattle.pcm_desk.specs.RunStates.{is_running};
 ghost use Rattle.pcm_sound.specs.Apart.{AreApart, all_by_pieces, all_by_spans, sum_of_all};
 ghost use Rattle.pcm_sound.specs.DeviceList.{device_text, faded_table, sum_at, table_of};
 ghost use Rattle.pcm_sound.specs.OwnAreas.{ChangesOneArea, mapped_slot, own_pokes};

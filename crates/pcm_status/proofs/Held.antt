@@ -1,7 +1,7 @@
 -- What a descriptor of an engine holds.
 use Rattle.std.proofs.Common.{◌≡◌, ℕ, ◌<◌, true, false, Some, refl, sym, ap, ◌∙◌, subst, arith, Bool}
 use Rattle.std.specs.Prelude.{Option, not}
-use Rattle.pcm_fixed.proofs.Items.{items-count}
+use Rattle.pcm_sequence.proofs.Items.{items-count}
 use Rattle.pcm_feeder.specs.declared.kind.Kind.{Kind}
 use Rattle.pcm_feeder.specs.Kept.{Kept}
 use Rattle.pcm_oss.specs.declared.event.Way.{Way}
@@ -18,7 +18,7 @@ use Rattle.pcm_desk.specs.Device.{map_slots, play_slots, record_slots}
 use Rattle.pcm_desk.specs.Channels.{is_held, map_rate_at, play_rate_at, record_rate_at, may_be_held}
 use Rattle.pcm_desk.specs.Desk.{desk_here, held_by, map_at, play_at, record_at, channel_at}
 use Rattle.pcm_desk.specs.PlayBooks.{is_play_free}
-use Rattle.pcm_desk.specs.RecordBooks.{is_record_free}
+use Rattle.pcm_desk.specs.RunStates.{is_unheld}
 use Rattle.pcm_desk.specs.PlaySafe.{PlayIsHere, PlayIsSafe}
 use Rattle.pcm_desk.specs.RecordSafe.{RecordIsSafe}
 use Rattle.pcm_desk.specs.MapSafe.{MapIsSafe}
@@ -73,8 +73,8 @@ pub play-taken : {B : Type 0} (engine : EngineOf B) (fd : ℕ) (held : Held) →
 play-taken engine fd held e way = unfree (play_at (device_of engine) (desk_of engine) held.slot).state (may_be engine fd held Play e way)
 
 pub record-taken : {B : Type 0} (engine : EngineOf B) (fd : ℕ) (held : Held) → held_by (desk_of engine) fd ≡ Some held → held.way ≡ Record
-    → is_record_free (record_at (device_of engine) (desk_of engine) held.slot).state ≡ false
-record-taken engine fd held e way = not-true (is_record_free (record_at (device_of engine) (desk_of engine) held.slot).state) (may_be engine fd held Record e way)
+    → is_unheld (record_at (device_of engine) (desk_of engine) held.slot).state ≡ false
+record-taken engine fd held e way = not-true (is_unheld (record_at (device_of engine) (desk_of engine) held.slot).state) (may_be engine fd held Record e way)
 
 -- ---- that its book is in order
 

@@ -7,13 +7,14 @@ use Rattle.pcm_desk.specs.declared.play_book.PlayBook.{PlayBook}
 use Rattle.pcm_desk.specs.declared.play_book.PlayState.{PlayState}
 use Rattle.pcm_desk.specs.declared.play_book.PlayState.TheVariants.{Free, Setup, Primed, Running, Draining}
 use Rattle.pcm_desk.specs.declared.record_book.RecordBook.{RecordBook}
-use Rattle.pcm_desk.specs.declared.record_book.RecordState.{RecordState}
-use Rattle.pcm_desk.specs.declared.record_book.RecordState.TheVariants as records
+use Rattle.pcm_desk.specs.declared.run_state.RunState.{RunState}
+use Rattle.pcm_desk.specs.declared.run_state.RunState.TheVariants as run_states
 use Rattle.pcm_desk.specs.Device.{DeviceSeen, mixed_for, passed_for}
 use Rattle.pcm_desk.specs.Channels.{mixed_by, mixing, play_rate_at, record_rate_at}
 use Rattle.pcm_desk.specs.Desk.{Desk, held_by, play_at, record_at}
 use Rattle.pcm_desk.specs.PlayBooks.{play_settled, refilled}
-use Rattle.pcm_desk.specs.RecordBooks.{captured, is_running}
+use Rattle.pcm_desk.specs.RunStates.{is_running}
+use Rattle.pcm_desk.specs.RecordBooks.{captured}
 use Rattle.pcm_desk.specs.PlaySafe.{PlayIsSafe}
 use Rattle.pcm_desk.proofs.PlaySafe.{safe-refilled}
 use Rattle.pcm_desk.proofs.Slots.{play_at-passing, record_at-capturing}
@@ -78,10 +79,10 @@ settled-after device desk (suc n) slot more rate mixed some rate_is more_is open
 
 -- ---- the book of one that records
 
-idle_stays : (state : RecordState) (rate : Rate) (n : ℕ) (book : RecordBook) → is_running state ≡ false → record book { state = state } ≡ captured rate n (record book { state = state })
-idle_stays records.Free rate n book idle = refl
-idle_stays records.Setup rate n book idle = refl
-idle_stays records.Running rate n book idle = cc
+idle_stays : (state : RunState) (rate : Rate) (n : ℕ) (book : RecordBook) → is_running state ≡ false → record book { state = state } ≡ captured rate n (record book { state = state })
+idle_stays run_states.Free rate n book idle = refl
+idle_stays run_states.Setup rate n book idle = refl
+idle_stays run_states.Running rate n book idle = cc
 
 -- one that isn't started captures nothing
 pub idle-after : (device : DeviceSeen) (desk : Desk) (n slot : ℕ) → is_running (record_at device desk slot).state ≡ false → record_at device desk slot ≡ record_at device (desk_after device desk n) slot

@@ -12,22 +12,19 @@ use Rattle.pcm_desk.specs.declared.play_book.PlayBook.{PlayBook}
 use Rattle.pcm_desk.specs.declared.play_book.PlayState.{PlayState}
 use Rattle.pcm_desk.specs.declared.play_book.PlayState.TheVariants as playing
 use Rattle.pcm_desk.specs.declared.record_book.RecordBook.{RecordBook}
-use Rattle.pcm_desk.specs.declared.record_book.RecordState.{RecordState}
-use Rattle.pcm_desk.specs.declared.record_book.RecordState.TheVariants as recording
+use Rattle.pcm_desk.specs.declared.run_state.RunState.{RunState}
+use Rattle.pcm_desk.specs.declared.run_state.RunState.TheVariants as run_states
 use Rattle.pcm_desk.specs.declared.map_book.MapBook.{MapBook}
-use Rattle.pcm_desk.specs.declared.map_book.MapState.{MapState}
-use Rattle.pcm_desk.specs.declared.map_book.MapState.TheVariants as mapped
 use Rattle.pcm_desk.specs.declared.opening.Opening.{Opening}
 use Rattle.pcm_desk.specs.Device.{DeviceSeen}
 use Rattle.pcm_desk.specs.Channels.{by_way, play_rate_at}
 use Rattle.pcm_desk.specs.Desk.{Desk, after, group_of, held_by, map_at, play_at, record_at, slot_number}
 use Rattle.pcm_desk.specs.PlayBooks.{giving}
-use Rattle.pcm_desk.specs.RecordBooks.{is_record_free}
-use Rattle.pcm_desk.specs.MapBooks.{is_map_free}
+use Rattle.pcm_desk.specs.RunStates.{is_unheld}
 use Rattle.pcm_rate.specs.declared.rate.Rate.{Rate}
 use Rattle.pcm_status.specs.declared.status.ChannelStatus.{ChannelStatus}
-use Rattle.pcm_status.specs.declared.status.RunState.{RunState}
-use Rattle.pcm_status.specs.declared.status.RunState.TheVariants.{Setup, Primed, Running, Draining}
+use Rattle.pcm_status.specs.declared.status.RunStatus.{RunStatus}
+use Rattle.pcm_status.specs.declared.status.RunStatus.TheVariants.{Setup, Primed, Running, Draining}
 use Rattle.pcm_status.specs.declared.status.SlotStatus.{SlotStatus}
 use Rattle.pcm_status.specs.declared.status.SlotState.{SlotState}
 use Rattle.pcm_status.specs.declared.status.SlotState.TheVariants as slots
@@ -45,25 +42,21 @@ counts bytes result = false
 -- ---- a channel that a descriptor holds
 
 -- where its run stands; of a free one, as of one whose run hasn't begun
-abbrev pub play_run : PlayState → RunState
+abbrev pub play_run : PlayState → RunStatus
 play_run playing.Free = Setup
 play_run playing.Setup = Setup
 play_run playing.Primed = Primed
 play_run playing.Running = Running
 play_run (playing.Draining closed) = Draining
 
-abbrev pub record_run : RecordState → RunState
-record_run recording.Free = Setup
-record_run recording.Setup = Setup
-record_run recording.Running = Running
-
-abbrev pub map_run : MapState → RunState
-map_run mapped.Free = Setup
-map_run mapped.Setup = Setup
-map_run mapped.Running = Running
+-- the same of a channel that records, and of a mapped one
+abbrev pub other_run : RunState → RunStatus
+other_run run_states.Free = Setup
+other_run run_states.Setup = Setup
+other_run run_states.Running = Running
 
 -- by the number of its slot, its opening, its volume, its group and where its run stands
-abbrev pub channel_status : Way → ℕ → Opening → ℕ → ℕ → RunState → ChannelStatus
+abbrev pub channel_status : Way → ℕ → Opening → ℕ → ℕ → RunStatus → ChannelStatus
 channel_status way slot opening volume group run = record {
   way = way;
   slot = slot;
@@ -84,8 +77,8 @@ held_status device desk held =
     let area : MapBook = map_at device desk held.slot in
     by_way held.way
     (channel_status held.way number play.opening play.volume (group_of desk held) (play_run play.state))
-    (channel_status held.way number recorder.opening 0 (group_of desk held) (record_run recorder.state))
-    (channel_status held.way number area.opening area.volume (group_of desk held) (map_run area.state))
+    (channel_status held.way number recorder.opening 0 (group_of desk held) (other_run recorder.state))
+    (channel_status held.way number area.opening area.volume (group_of desk held) (other_run area.state))
 
 -- of a descriptor, if it is open
 abbrev pub client_status : DeviceSeen → Desk → ℕ → Option ChannelStatus
@@ -113,8 +106,8 @@ slot_status device desk way place =
     let play : PlayBook = play_at device desk place in
     by_way way
     (record { state = play_slot play.state; frames = still_given (play_rate_at device play) play })
-    (record { state = taken_slot (is_record_free (record_at device desk place).state); frames = 0 })
-    (record { state = taken_slot (is_map_free (map_at device desk place).state); frames = 0 })
+    (record { state = taken_slot (is_unheld (record_at device desk place).state); frames = 0 })
+    (record { state = taken_slot (is_unheld (map_at device desk place).state); frames = 0 })
 
 -- ---- readiness
 

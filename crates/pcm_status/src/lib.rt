@@ -10,5 +10,5 @@ mod waits;
 pub use limits::FRAMES_MOST;
 pub use ready::{is_readable, is_writable};
 pub use replies::reply_of;
-pub use status::{ChannelStatus, RunState, SlotState, SlotStatus, client_status, slot_status};
+pub use status::{ChannelStatus, RunStatus, SlotState, SlotStatus, client_status, slot_status};
 pub use waits::frames_until;

@@ -9,9 +9,9 @@ ghost use Rattle.pcm_oss.specs.declared.event.Way.TheVariants.{Play};
 ghost use Rattle.pcm_rate.specs.Rates.{IsRatio};
 ghost use Rattle.pcm_engine.specs.Engines.{AreReady, desk_of, device_of};
 ghost use Rattle.pcm_status.specs.Statuses as statuses;
-ghost use Rattle.pcm_status.specs.Statuses.{map_run, play_run, record_run, still_given, taken_slot};
+ghost use Rattle.pcm_status.specs.Statuses.{other_run, play_run, still_given, taken_slot};
 
-use pcm_desk::{Held, MapState, Opening, PlayBook, PlayState, RecordState};
+use pcm_desk::{Held, Opening, PlayBook, PlayState, RunState};
 use pcm_engine::EngineOf;
 use pcm_feeder::Feeder;
 use pcm_format::Settings;
@@ -20,7 +20,7 @@ use pcm_rate::Rate;
 
 /// Where the run of a channel stands.
 #[derive(Clone, Copy, Debug, PartialEq, Eq)]
-pub enum RunState {
+pub enum RunStatus {
     /// Nothing of a run is there.
     Setup,
     /// Written to, and not started.
@@ -45,7 +45,7 @@ pub struct ChannelStatus {
     pub volume: u32,
     /// The number of its group: 0 is none.
     pub group: u32,
-    pub run: RunState,
+    pub run: RunStatus,
 }
 
 /// Who has a slot.
@@ -95,12 +95,12 @@ fn held_status<B: Feeder>(engine: &EngineOf<B>, held: Held) -> ChannelStatus
         }
         Way::Record => {
             let book = engine.record_book(held.slot);
-            let run = record_run(book.state);
+            let run = other_run(book.state);
             channel_status(held.way, slot, book.opening, 0, group, run)
         }
         Way::Map => {
             let book = engine.map_book(held.slot);
-            let run = map_run(book.state);
+            let run = other_run(book.state);
             channel_status(held.way, slot, book.opening, book.volume, group, run)
         }
     }
@@ -113,7 +113,7 @@ fn channel_status(
     opening: Opening,
     volume: u32,
     group: u32,
-    run: RunState,
+    run: RunStatus,
 ) -> ChannelStatus
     ensures { result ≡ statuses.channel_status way slot opening volume group run }
 {
@@ -182,31 +182,23 @@ fn taken_slot(free: bool) -> SlotStatus
     SlotStatus { state, frames: 0 }
 }
 
-fn play_run(state: PlayState) -> RunState
+fn play_run(state: PlayState) -> RunStatus
     ensures { result ≡ play_run state }
 {
     match state {
-        PlayState::Free | PlayState::Setup => RunState::Setup,
-        PlayState::Primed => RunState::Primed,
-        PlayState::Running => RunState::Running,
-        PlayState::Draining { .. } => RunState::Draining,
+        PlayState::Free | PlayState::Setup => RunStatus::Setup,
+        PlayState::Primed => RunStatus::Primed,
+        PlayState::Running => RunStatus::Running,
+        PlayState::Draining { .. } => RunStatus::Draining,
     }
 }
 
-fn record_run(state: RecordState) -> RunState
-    ensures { result ≡ record_run state }
+// The same of a channel that records, and of a mapped one.
+fn other_run(state: RunState) -> RunStatus
+    ensures { result ≡ other_run state }
 {
     match state {
-        RecordState::Free | RecordState::Setup => RunState::Setup,
-        RecordState::Running => RunState::Running,
-    }
-}
-
-fn map_run(state: MapState) -> RunState
-    ensures { result ≡ map_run state }
-{
-    match state {
-        MapState::Free | MapState::Setup => RunState::Setup,
-        MapState::Running => RunState::Running,
+        RunState::Free | RunState::Setup => RunStatus::Setup,
+        RunState::Running => RunStatus::Running,
     }
 }

@@ -9,7 +9,8 @@ ghost use Rattle.pcm_desk.specs.declared.here.Here.{Here};
 ghost use Rattle.pcm_desk.specs.Device.{DeviceSeen, here_at, play_slots, record_slots};
 ghost use Rattle.pcm_rate.specs.Rates.{IsRatio};
 ghost use Rattle.pcm_desk.specs.PlayBooks.{is_play_free, write_turn};
-ghost use Rattle.pcm_desk.specs.RecordBooks.{is_record_free, read_turn};
+ghost use Rattle.pcm_desk.specs.RunStates.{is_unheld};
+ghost use Rattle.pcm_desk.specs.RecordBooks.{read_turn};
 ghost use Rattle.pcm_engine.specs.Engines.{AreReady, desk_of, device_of};
 ghost use Rattle.pcm_status.specs.declared.limits.TheConstants.{FRAMES_MOST};
 ghost use Rattle.pcm_status.specs.Statuses.{counts};
@@ -154,7 +155,7 @@ fn here_after<B: Feeder>(engine: &EngineOf<B>, frames: u64) -> Here
 fn record_book_after<B: Feeder>(engine: &EngineOf<B>, slot: usize, frames: u64) -> RecordBook
     requires ready { AreReady B.kind B.kept engine.now }
     requires there { slot < record_slots (device_of engine.now) }
-    requires taken { is_record_free (record_at (device_of engine.now) (desk_of engine.now) slot).state ≡ false }
+    requires taken { is_unheld (record_at (device_of engine.now) (desk_of engine.now) slot).state ≡ false }
     requires few { frames ≤ FRAMES_MOST }
     ensures { result ≡ record_at (device_of engine.now)
         (desk_after (device_of engine.now) (desk_of engine.now) frames) slot }

@@ -1,7 +1,7 @@
 //! Filters and sections of numbers, once there is memory for them.
 
 use pcm_feeder::{Section, Table, Tables};
-use pcm_numbers::{FilterNumbers, NumbersFault, SectionNumbers, tables_from};
+use pcm_foreign::{FilterNumbers, NumbersFault, SectionNumbers, tables_from};
 use std::alloc::Global;
 use std::test::Fail;
 

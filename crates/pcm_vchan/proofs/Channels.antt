@@ -3,7 +3,7 @@ use Rattle.std.proofs.Common.{◌≡◌, ℕ, ℤ, ◌*◌, ◌+◌, ◌<◌, �
 use Rattle.std.specs.Prelude.{not, ◌&&◌, ◌||◌}
 use Rattle.std.proofs.Props.{props}
 use mathlib.Core.HLevel.{is_prop→PathP}
-use Rattle.pcm_fixed.specs.Fixed.{fixed_len}
+use Rattle.pcm_sequence.specs.Fixed.{fixed_len}
 use Rattle.pcm_format.specs.Formats.{code_of}
 use Rattle.pcm_format.specs.Frames.{Frame, frame_bytes}
 use Rattle.pcm_format.specs.Layouts.{channels_of}
@@ -24,7 +24,8 @@ use Rattle.pcm_desk.specs.PlayBooks.{play_settled}
 use Rattle.pcm_desk.specs.declared.record_book.RecordBook.{RecordBook}
 use Rattle.pcm_desk.specs.declared.map_book.MapBook.{MapBook}
 use Rattle.pcm_desk.specs.declared.opening.Opening.{Opening}
-use Rattle.pcm_desk.specs.MapBooks.{is_map_free, taken_of}
+use Rattle.pcm_desk.specs.RunStates.{is_unheld}
+use Rattle.pcm_desk.specs.MapBooks.{taken_of}
 use Rattle.pcm_desk.specs.Channels.{capturing, map_passing, mixed_by, mixing, play_passing, play_rate_at}
 use Rattle.pcm_play.specs.declared.channel.PlayChannelOf.{PlayChannelOf}
 use Rattle.pcm_bus.proofs.Channels.{some_channel}
@@ -154,7 +155,7 @@ begins-none false = refl
 pub map-keeps-nothing : {B : Type 0} (kind : B → Kind) (kept : B → Kept) (filters : Filters) (channel : MapChannelOf B) → MapKeeps kind kept filters (λ area. area) channel channel
 map-keeps-nothing kind kept filters channel =
     let opening : Opening = channel.book.opening in
-    let stays : silences channel.book channel.book ≡ false = ap (λ (b : Bool). b || is_recut opening opening) (begins-none (is_map_free channel.book.state)) ∙ recut-none opening in
+    let stays : silences channel.book channel.book ≡ false = ap (λ (b : Bool). b || is_recut opening opening) (begins-none (is_unheld channel.book.state)) ∙ recut-none opening in
     record {
       moves = moves-nothing kind kept filters [] 0 channel;
       area = ap (λ (b : Bool). cond b (silent_area opening) (area_of channel)) (sym stays);

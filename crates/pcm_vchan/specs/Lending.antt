@@ -1,7 +1,7 @@
 -- What a parent becomes when the borrower of one of its parts returns it.
 use Rattle.std.specs.Prelude.{ℕ, ◌-◌}
 use Rattle.std.specs.Borrow.{Lends, MutBor, Fml, RattleType}
-use Rattle.pcm_fixed.specs.Fixed.{with_fixed_item}
+use Rattle.pcm_sequence.specs.Fixed.{with_fixed_item}
 use Rattle.pcm_play.specs.declared.channel.PlayChannelOf.{PlayChannelOf}
 use Rattle.pcm_play.specs.contracts.channel.PlayChannelOf.{the_row as channel_row}
 use Rattle.pcm_record.specs.declared.channel.RecordChannelOf.{RecordChannelOf}

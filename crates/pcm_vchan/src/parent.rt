@@ -2,7 +2,7 @@
 
 ghost use Rattle.std.specs.Borrow.{sem};
 ghost use Rattle.std.specs.Prelude.{◌≡◌, ◌+◌, ◌*◌, ◌^◌, ◌<◌, ◌≤◌, ◌≤ℤ◌, pos, [], length, All, OnErr, IfOk, take, slice_index_or};
-ghost use Rattle.pcm_fixed.specs.Fixed.{fixed_len};
+ghost use Rattle.pcm_sequence.specs.Fixed.{fixed_len};
 ghost use Rattle.pcm_format.specs.Frames.{frame_bytes};
 ghost use Rattle.pcm_format.specs.Layouts.{channels_of};
 ghost use Rattle.pcm_feeder.specs.Limits.{IsRate};
@@ -30,7 +30,6 @@ use crate::walk::walk;
 use pcm_bus::{BusOf, silent_ring};
 use pcm_desk::{Device, Here};
 use pcm_feeder::{Feeder, RacksOf, Tables};
-use pcm_fixed::Fixed;
 use pcm_format::Settings;
 use pcm_group::Groups;
 use pcm_map::MapChannelOf;
@@ -39,6 +38,7 @@ use pcm_oss::{Errno, SLOTS, Way};
 use pcm_play::PlayChannelOf;
 use pcm_record::RecordChannelOf;
 use pcm_ring::ByteRing;
+use pcm_sequence::Fixed;
 use std::alloc::{AllocError, Global};
 
 /// The channels of a device by slot, those that play, those that record and the mapped ones, its mixer device, the bus from what is played to its

@@ -1,7 +1,7 @@
 //! What the slots of one way hold, whichever way that is: a channel each, and an opening begins in the least free one.
 
 ghost use Rattle.std.specs.Prelude.{◌≡◌, ◌+◌, ◌<◌, ◌≤◌, [], take, vec_len, All, IfOk, IfSome, OnErr, position};
-ghost use Rattle.pcm_fixed.specs.Fixed.{fixed_items, fixed_len};
+ghost use Rattle.pcm_sequence.specs.Fixed.{fixed_items, fixed_len};
 ghost use Rattle.pcm_feeder.specs.Limits.{IsRate};
 ghost use Rattle.pcm_feeder.specs.Racks.{AreRacks, IsRack, rack_marks};
 ghost use Rattle.pcm_chain.specs.Chains.{HasRack};
@@ -16,12 +16,12 @@ ghost use Rattle.pcm_vchan.specs.Racks.{channel_marks};
 
 use pcm_desk::Device;
 use pcm_feeder::{Feeder, RackOf, Tables};
-use pcm_fixed::Fixed;
 use pcm_format::Settings;
 use pcm_map::MapChannelOf;
 use pcm_oss::Errno;
 use pcm_play::PlayChannelOf;
 use pcm_record::RecordChannelOf;
+use pcm_sequence::Fixed;
 use std::alloc::{AllocError, Global};
 
 // What is made, if there is memory for it.
@@ -100,13 +100,14 @@ impl<B: Feeder> Channel<B> for PlayChannelOf<B> {
 }
 
 impl<B: Feeder> Channel<B> for RecordChannelOf<B> {
-    ghost use Rattle.pcm_desk.specs.RecordBooks.{is_record_free, record_begun};
+    ghost use Rattle.pcm_desk.specs.RunStates.{is_unheld};
+    ghost use Rattle.pcm_desk.specs.RecordBooks.{record_begun};
     ghost use Rattle.pcm_record.specs.Channels.{IsRecordUnopened, RecordMoves};
     ghost use Rattle.pcm_vchan.specs.Slots.{ChannelMoves};
 
     ghost path = { λ channel. channel.path };
 
-    ghost is_free = { λ channel. is_record_free channel.book.state };
+    ghost is_free = { λ channel. is_unheld channel.book.state };
 
     ghost is_unopened = { IsRecordUnopened B.kind B.kept };
 
@@ -132,13 +133,14 @@ impl<B: Feeder> Channel<B> for RecordChannelOf<B> {
 }
 
 impl<B: Feeder> Channel<B> for MapChannelOf<B> {
-    ghost use Rattle.pcm_desk.specs.MapBooks.{is_map_free, map_begun};
+    ghost use Rattle.pcm_desk.specs.RunStates.{is_unheld};
+    ghost use Rattle.pcm_desk.specs.MapBooks.{map_begun};
     ghost use Rattle.pcm_map.specs.Channels.{IsMapUnopened};
     ghost use Rattle.pcm_vchan.specs.Slots.{ChannelMoves, MapKeeps};
 
     ghost path = { λ channel. channel.path };
 
-    ghost is_free = { λ channel. is_map_free channel.book.state };
+    ghost is_free = { λ channel. is_unheld channel.book.state };
 
     ghost is_unopened = { IsMapUnopened B.kind B.kept };
 

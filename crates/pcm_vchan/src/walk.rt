@@ -1,11 +1,11 @@
 //! What is done to all channels of a way, in the order of their slots.
 
 ghost use Rattle.std.specs.Prelude.{◌≡◌, ◌≤◌, All};
-ghost use Rattle.pcm_fixed.specs.Fixed.{fixed_items, fixed_len};
+ghost use Rattle.pcm_sequence.specs.Fixed.{fixed_items, fixed_len};
 ghost use Rattle.pcm_oss.specs.declared.event.TheConstants.{SLOTS};
 ghost use Rattle.pcm_vchan.specs.Starts.{EachAt};
 
-use pcm_fixed::Fixed;
+use pcm_sequence::Fixed;
 
 /// What is done to a channel, by its slot.
 pub(crate) trait Visit<C> {

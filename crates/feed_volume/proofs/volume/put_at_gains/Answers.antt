@@ -3,8 +3,8 @@ use Rattle.std.proofs.Math.Nat.{mul-le-mul_right}
 use Rattle.std.proofs.lemmas.List.{length-take-le, length-drop}
 use borrow.Rule.Slice.PartMut.{put_mid}
 use Rattle.pcm_feeder.proofs.Frames.{frame_in}
-use Rattle.pcm_gain.specs.Gains.{at_gains}
-use Rattle.pcm_gain.proofs.Products.{length-at_gains}
+use Rattle.pcm_feeder.specs.Gains.{at_gains}
+use Rattle.pcm_feeder.proofs.AtGains.{length-at_gains}
 use Rattle.pcm_feeder.proofs.Mapped.{put-more, frames-there}
 use Rattle.feed_volume.proofs.volume.put_at_gains.Goals as goal
 

@@ -1,6 +1,6 @@
 use Rattle.std.proofs.Common.{◌≡◌, length, map, take}
 use Rattle.pcm_feeder.specs.Streams.{frames_of, written}
-use Rattle.pcm_gain.specs.Gains.{at_gains}
+use Rattle.pcm_feeder.specs.Gains.{at_gains}
 use Rattle.feed_volume.proofs.volume.put_at_gains.Given as goal
 
 -- the first frames are written

@@ -5,7 +5,7 @@ use Rattle.pcm_format.specs.Layouts.{channels_of}
 use Rattle.pcm_format.proofs.Streams.{channels_of-most}
 use Rattle.pcm_feeder.specs.Streams.{interleaved}
 use Rattle.pcm_plan.specs.Through.{recs}
-use Rattle.pcm_desk.specs.Device.{DeviceSeen, filters_of, mix_frames, parent_plan, seen, unfiltered}
+use Rattle.pcm_desk.specs.Device.{DeviceSeen, device_filters, mix_frames, parent_plan, seen, unfiltered}
 use Rattle.pcm_desk.specs.Channels.{mixed_by}
 use Rattle.pcm_bus.specs.Blocks.{turned_ring, whole_block}
 use Rattle.pcm_bus.specs.Buses.{mixed_at_once}
@@ -99,7 +99,7 @@ returns-clause-turns g c = λ sources x stand made.
       made = subst (λ (frames : List Frame). HasMade g.B.Feeder.kept device c.hand_over-made.new.chain frames (handed + n)) all more.made;
       ring = c.turn_ring.ensures.ring
           ∙ ap (λ (m : List ℤ). turned_ring c.args.device.settings n m c.args.ring.now.bytes)
-          (more.frames ∙ ap (λ (frames : List Frame). interleaved (recs (parent_plan device) (filters_of device) frames handed n)) all);
+          (more.frames ∙ ap (λ (frames : List Frame). interleaved (recs (parent_plan device) (device_filters device) frames handed n)) all);
     }
 
 pub returns-clause-made : goal.returns-clause-made

@@ -7,10 +7,10 @@ use Rattle.pcm_format.specs.Formats.{bits_of}
 use Rattle.pcm_format.specs.Layouts.{channels_of}
 use Rattle.pcm_format.proofs.Spelling.{silence-fits}
 use Rattle.pcm_feeder.specs.declared.stage.Gain.{Gain}
-use Rattle.pcm_mixdev.specs.Fades.{faded}
+use Rattle.pcm_feeder.specs.Fades.{faded}
 use Rattle.pcm_mixdev.specs.Mixers.{master_gain, slot_gain}
-use Rattle.pcm_mixdev.proofs.FadedBits.{faded-fits}
-use Rattle.pcm_mixdev.proofs.FadedFrames.{faded-nothing}
+use Rattle.pcm_feeder.proofs.FadedBits.{faded-fits}
+use Rattle.pcm_feeder.proofs.FadedFrames.{faded-nothing}
 use Rattle.pcm_desk.specs.Device.{seen}
 use Rattle.pcm_desk.specs.Channels.{map_mixing, mixing}
 use Rattle.pcm_sound.specs.MapRuns.{area_taken}

@@ -2,8 +2,8 @@ use Rattle.std.proofs.Common.{rules, ◌≡◌, ◌≤◌, ◌<◌, ◌-◌, ◌
 use Rattle.std.proofs.lemmas.List.{length-take-le, take_at}
 use Rattle.std.proofs.lemmas.List.Elements.{All-same, All-take}
 use Rattle.pcm_num.specs.Limit.{FitsBits}
-use Rattle.pcm_fixed.specs.Fixed.{fixed_items, fixed_len}
-use Rattle.pcm_fixed.proofs.Items.{items-count}
+use Rattle.pcm_sequence.specs.Fixed.{fixed_items, fixed_len}
+use Rattle.pcm_sequence.proofs.Items.{items-count}
 use Rattle.pcm_feeder.specs.Turns.{Turn}
 use Rattle.pcm_chain.specs.Boxes.{kept_in}
 use Rattle.pcm_chain.specs.Feeds.{first_frames}

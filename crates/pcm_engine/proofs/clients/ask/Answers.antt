@@ -1,6 +1,6 @@
 use Rattle.std.proofs.Common.{rules, ◌+◌, ◌^◌, ◌<◌, [], Option, refl, sym, ap, ◌∙◌, subst}
 use Rattle.std.proofs.lemmas.Result.{on_err_weaker}
-use Rattle.pcm_fixed.proofs.Items.{item-kept}
+use Rattle.pcm_sequence.proofs.Items.{item-kept}
 use Rattle.pcm_feeder.specs.Racks.{HaveKinds}
 use Rattle.pcm_chain.specs.Chains.{boxes_in}
 use Rattle.pcm_oss.specs.declared.event.Way.TheVariants.{Play, Record, Map}

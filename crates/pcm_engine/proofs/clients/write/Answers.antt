@@ -1,6 +1,6 @@
 use Rattle.std.proofs.Common.{◌+◌, ◌<◌, Option, length, refl, sym, ap, ◌∙◌, subst, arith}
 use Rattle.std.proofs.lemmas.Result.{on_err_weaker}
-use Rattle.pcm_fixed.proofs.Items.{item-kept, items-count}
+use Rattle.pcm_sequence.proofs.Items.{item-kept, items-count}
 use Rattle.pcm_feeder.specs.Filters.{Filters}
 use Rattle.pcm_oss.specs.declared.event.Event.TheVariants.{Write}
 use Rattle.pcm_oss.specs.declared.event.Way.TheVariants.{Play}

@@ -7,8 +7,8 @@ use Rattle.pcm_desk.specs.Device.{seen}
 use Rattle.pcm_desk.specs.Channels.{play_starting, record_starting}
 use Rattle.pcm_desk.specs.Desk.{DeskTurn, desk_here, held_by}
 use Rattle.pcm_desk.specs.PlayBooks.{play_is_ready}
-use Rattle.pcm_fixed.specs.declared.fixed.Fixed.{Fixed}
-use Rattle.pcm_fixed.specs.Fixed.{fixed_items}
+use Rattle.pcm_sequence.specs.declared.fixed.Fixed.{Fixed}
+use Rattle.pcm_sequence.specs.Fixed.{fixed_items}
 use Rattle.pcm_map.specs.declared.channel.MapChannelOf.{MapChannelOf}
 use Rattle.pcm_bus.specs.Slots.{map_books_of}
 use Rattle.pcm_vchan.specs.Parents.{play_books, record_books}

@@ -4,7 +4,7 @@ use Rattle.pcm_desk.specs.Device.{DeviceSeen}
 use Rattle.pcm_engine.specs.Engines.{device_of}
 use Rattle.pcm_inputs.specs.Outside.{outside}
 use Rattle.pcm_replay.specs.Playback.{playback}
-use Rattle.pcm_soaking.specs.Running.{CanRun}
+use Rattle.pcm_soak_command.specs.Running.{CanRun}
 use Rattle.pcm_replay.specs.Playing.{HasPlayed}
 use Rattle.pcm_replay.specs.Turns.{CutsNext, WritesFirst, WritesNext}
 use Rattle.pcm_replay.proofs.Turns.{first-more, first-none}

@@ -3,7 +3,7 @@ use Rattle.pcm_engine.specs.Engines.{device_of}
 use Rattle.pcm_replay.specs.Cuts.{RunInHeader}
 use Rattle.pcm_inputs.specs.Outside.{outside}
 use Rattle.pcm_replay.specs.Playback.{playback}
-use Rattle.pcm_converting.proofs.Appending.{has_written, rose_later}
+use Rattle.pcm_convert_command.proofs.Appending.{has_written, rose_later}
 use Rattle.pcm_inputs.proofs.Refusing.{on-err, on-ok}
 use Rattle.pcm_replay.proofs.Turns.{cut-events, written-events}
 use Rattle.pcm_replay.proofs.playing.play_into.Goals as goal

@@ -12,9 +12,9 @@ use Rattle.pcm_replay.specs.Cuts.{CutsRun}
 use Rattle.pcm_inputs.specs.Outside.{outside}
 use Rattle.pcm_inputs.specs.Parts.{inputs_seen}
 use Rattle.pcm_replay.specs.Playback.{playback}
-use Rattle.pcm_soaking.specs.Running.{CanRun}
+use Rattle.pcm_soak_command.specs.Running.{CanRun}
 use Rattle.pcm_replay.specs.Playing.{output_played}
-use Rattle.pcm_converting.specs.Written.{WritesAll}
+use Rattle.pcm_convert_command.specs.Written.{WritesAll}
 use Rattle.pcm_replay.proofs.Turns.{playback-same, run-same}
 use Rattle.pcm_replay.proofs.running.run_script.Goals as goal
 

@@ -1,9 +1,8 @@
-use Rattle.std.proofs.Common.{◌≡◌, Bool, true, false, sym, rules}
+use Rattle.std.proofs.Common.{◌≡◌, Bool, true, false, sym, rules, List}
 use Rattle.std.specs.List.{IsAllAdjacentAnswer}
 use Rattle.std.proofs.lemmas.Bool.{false≢true}
 use Rattle.std.proofs.lemmas.List.Sorted.{answers_always}
 use Rattle.pcm_wave.specs.DataFiles.{DataFileSeen}
-use Rattle.std.proofs.Common.{List}
 use Rattle.pcm_script.specs.Listed.{AreRising, is_before}
 use Rattle.pcm_script.proofs.listed.are_rising.Goals as goal
 

@@ -1,6 +1,6 @@
 use Rattle.std.proofs.Common.{◌+◌, ◌*◌, ◌<◌, ◌^◌, get_or, refl, sym, ap, ◌∙◌, subst, arith}
 use Rattle.pcm_rate.specs.declared.rate.Rate.{Rate}
-use Rattle.pcm_fixed.proofs.Items.{items-count}
+use Rattle.pcm_sequence.proofs.Items.{items-count}
 use Rattle.pcm_feeder.specs.Limits.{IsRate}
 use Rattle.pcm_format.specs.Frames.{frame_bytes}
 use Rattle.pcm_bus.proofs.Channels.{some_channel}

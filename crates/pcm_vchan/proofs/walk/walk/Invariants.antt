@@ -1,5 +1,5 @@
 use Rattle.std.proofs.Common.{◌≡◌, ℕ, ◌<◌, ◌≤◌, slice_index_or}
-use Rattle.pcm_fixed.specs.Fixed.{fixed_items, fixed_len}
+use Rattle.pcm_sequence.specs.Fixed.{fixed_items, fixed_len}
 use Rattle.pcm_vchan.proofs.walk.walk.Given as goal
 
 -- The channels below the index were visited, and the others are as they were.

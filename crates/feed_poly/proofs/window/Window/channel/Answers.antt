@@ -1,6 +1,6 @@
 use Rattle.std.proofs.Common.{◌+◌, ◌-◌, ◌*◌, take, drop, ap, ◌∙◌}
-use Rattle.pcm_fixed.specs.Fixed.{fixed_items}
-use Rattle.pcm_fixed.proofs.Items.{items-count}
+use Rattle.pcm_sequence.specs.Fixed.{fixed_items}
+use Rattle.pcm_sequence.proofs.Items.{items-count}
 use Rattle.feed_poly.proofs.Windows.{channel-is}
 use Rattle.feed_poly.proofs.window.Window.channel.Goals as goal
 

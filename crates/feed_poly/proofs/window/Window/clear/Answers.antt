@@ -1,7 +1,7 @@
 use Rattle.std.proofs.Common.{◌≡◌, List, ℤ, pos, get_or, replicate, length, ap, ◌∙◌, arith}
 use Rattle.std.proofs.lemmas.List.{get_or-replicate}
-use Rattle.pcm_fixed.specs.Fixed.{fixed_items, with_fixed_items}
-use Rattle.pcm_fixed.proofs.Items.{items-written}
+use Rattle.pcm_sequence.specs.Fixed.{fixed_items, with_fixed_items}
+use Rattle.pcm_sequence.proofs.Items.{items-written}
 use Rattle.feed_poly.proofs.Windows.{silent-frames}
 use Rattle.feed_poly.proofs.window.Window.clear.Goals as goal
 

@@ -1,6 +1,6 @@
 use Rattle.std.proofs.Common.{◌≡◌, ◌≢◌, ◌⊎◌, ◌+◌, length, inl, inr, ap, ◌∙◌}
-use Rattle.pcm_fixed.specs.Fixed.{fixed_items}
-use Rattle.pcm_fixed.proofs.Items.{items-count, items-written}
+use Rattle.pcm_sequence.specs.Fixed.{fixed_items}
+use Rattle.pcm_sequence.proofs.Items.{items-count, items-written}
 use Rattle.feed_poly.specs.Places.{ArePut, frames_from}
 use Rattle.feed_poly.proofs.Places.{twice-again, put-moves}
 use Rattle.feed_poly.proofs.window.Window.push.Goals as goal

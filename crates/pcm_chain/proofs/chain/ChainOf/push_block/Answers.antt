@@ -3,7 +3,7 @@ use Rattle.std.specs.List.{flat_map}
 use Rattle.std.proofs.Math.Nat.{mul_assoc, mul-le-mul}
 use Rattle.std.proofs.lemmas.List.{take_at, length-append, length-take-le}
 use Rattle.std.proofs.lemmas.List.Elements.{All-append}
-use Rattle.pcm_fixed.specs.Fixed.{fixed_items, fixed_len}
+use Rattle.pcm_sequence.specs.Fixed.{fixed_items, fixed_len}
 use Rattle.pcm_num.specs.Limit.{FitsBits}
 use Rattle.pcm_format.specs.Formats.{bits_of, bytes_of}
 use Rattle.pcm_format.specs.Frames.{Frame}

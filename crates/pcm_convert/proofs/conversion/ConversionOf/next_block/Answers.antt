@@ -9,8 +9,8 @@ use Rattle.pcm_format.specs.Frames.{frame_bytes, frames}
 use Rattle.pcm_format.specs.Layouts.{channels_of}
 use Rattle.pcm_format.specs.Samples.{spelled}
 use Rattle.pcm_ring.specs.Ring.{Ring}
-use Rattle.pcm_feeder.specs.Filters.{Filters}
-use Rattle.pcm_fixed.proofs.Items.{items-written}
+use Rattle.pcm_feeder.specs.Filters.{Filters, no_filters}
+use Rattle.pcm_sequence.proofs.Items.{items-written}
 use Rattle.pcm_plan.specs.Fits.{HaveTables}
 use Rattle.pcm_plan.specs.Plans.{PlanSeen}
 use Rattle.pcm_plan.specs.Through.{recs}
@@ -19,7 +19,6 @@ use Rattle.pcm_plan.proofs.Fits.{record-tables}
 use Rattle.pcm_chain.specs.Chains.{ChainStands, plan_in}
 use Rattle.pcm_chain.proofs.Standing.{stands-fitted}
 use Rattle.pcm_convert.specs.Conversions.{block_count, conversion_plan}
-use Rattle.pcm_feeder.specs.Filters.{no_filters}
 use Rattle.pcm_convert.proofs.Blocks.{block-given, no_filters-fit}
 use Rattle.pcm_convert.proofs.Bodies.{frames-bits, interleaved-bits, spelled-interleaved}
 use Rattle.pcm_convert.proofs.Bytes.{block-recs}

@@ -7,8 +7,7 @@ use Rattle.pcm_vchan.specs.Parents.{EachCaptures}
 use Rattle.pcm_engine.specs.Desks.{desk_with}
 use Rattle.pcm_engine.specs.Engines.{samples_most}
 use Rattle.pcm_engine.specs.Invariants.{AreOwn}
-use Rattle.pcm_engine.proofs.Applying.{alone, applied-answer, applied-at, applied-call, applied-mixer, order-after, own-mixed}
-use Rattle.pcm_engine.proofs.Applying.{samples-sized}
+use Rattle.pcm_engine.proofs.Applying.{alone, applied-answer, applied-at, applied-call, applied-mixer, order-after, own-mixed, samples-sized}
 use Rattle.pcm_engine.proofs.Desks.{desk-interrupted}
 use Rattle.pcm_engine.proofs.InOrder.{bytes-counted, can-be-asked, closable, due, few-mixed, here-seen, served}
 use Rattle.pcm_engine.proofs.Turning.{poke-turn, write-turn}

@@ -1,8 +1,7 @@
 use Rattle.std.proofs.Common.{◌&&◌, Bool, sym, ap, ◌∙◌}
 use Rattle.std.proofs.lemmas.List.Folds.{list_all-map}
 use Rattle.pcm_desk.specs.PlayBooks.{is_play_free}
-use Rattle.pcm_desk.specs.RecordBooks.{is_record_free}
-use Rattle.pcm_desk.specs.MapBooks.{is_map_free}
+use Rattle.pcm_desk.specs.RunStates.{is_unheld}
 use Rattle.pcm_desk.specs.declared.play_book.PlayBook.{PlayBook}
 use Rattle.pcm_desk.specs.declared.record_book.RecordBook.{RecordBook}
 use Rattle.pcm_desk.specs.declared.map_book.MapBook.{MapBook}
@@ -19,8 +18,8 @@ returns g c =
     let parent = c.args.self.now.parent in
     let desk = desk_of c.args.self.now in
     let plays = c.plays_none.ensures ∙ sym (list_all-map (λ (book : PlayBook). is_play_free book.state) (λ (channel : PlayChannelOf _). channel.book) (play_channels parent)) in
-    let records = c.records_none.ensures ∙ sym (list_all-map (λ (book : RecordBook). is_record_free book.state) (λ (channel : RecordChannelOf _). channel.book) (record_channels parent)) in
-    let maps = c.maps_none.ensures ∙ sym (list_all-map (λ (book : MapBook). is_map_free book.state) (λ (channel : MapChannelOf _). channel.book) (map_channels parent)) in
+    let records = c.records_none.ensures ∙ sym (list_all-map (λ (book : RecordBook). is_unheld book.state) (λ (channel : RecordChannelOf _). channel.book) (record_channels parent)) in
+    let maps = c.maps_none.ensures ∙ sym (list_all-map (λ (book : MapBook). is_unheld book.state) (λ (channel : MapChannelOf _). channel.book) (map_channels parent)) in
     c.are_all.ensures
     ∙ ap (λ (b : Bool). b && (c.records_none.result && c.maps_none.result)) plays
     ∙ ap (λ (b : Bool). plays_none desk && (b && c.maps_none.result)) records

@@ -1,7 +1,7 @@
 use Rattle.std.proofs.Common.{◌<◌, ◌^◌, sym, subst, arith}
 use Rattle.pcm_desk.specs.MapBooks.{taken_of}
 use Rattle.pcm_map.specs.declared.channel.MapChannelOf.{MapChannelOf}
-use Rattle.pcm_fixed.proofs.Items.{items-count}
+use Rattle.pcm_sequence.proofs.Items.{items-count}
 use Rattle.pcm_engine.proofs.InOrder.{maps-taken}
 use Rattle.pcm_engine.proofs.engine.EngineOf.map_book.Goals as goal
 

@@ -1,5 +1,5 @@
 use Rattle.std.proofs.Common.{◌+◌, ◌<◌, ◌^◌, sym, subst, arith}
-use Rattle.pcm_fixed.proofs.Items.{items-count}
+use Rattle.pcm_sequence.proofs.Items.{items-count}
 use Rattle.pcm_play.specs.declared.channel.PlayChannelOf.{PlayChannelOf}
 use Rattle.pcm_engine.proofs.InOrder.{bytes-counted, few-mixed, play-pace}
 use Rattle.pcm_engine.proofs.engine.EngineOf.play_book.Goals as goal

@@ -1,5 +1,5 @@
 use Rattle.std.proofs.Common.{◌*◌, ◌≤◌, sym, subst, arith}
-use Rattle.pcm_fixed.proofs.Items.{items-count}
+use Rattle.pcm_sequence.proofs.Items.{items-count}
 use Rattle.pcm_oss.specs.declared.fragments.TheConstants.{RING_BYTES}
 use Rattle.pcm_record.specs.declared.channel.RecordChannelOf.{RecordChannelOf}
 use Rattle.pcm_engine.specs.declared.limits.TheConstants.{LIFE}

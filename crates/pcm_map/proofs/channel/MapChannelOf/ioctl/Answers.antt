@@ -1,5 +1,5 @@
 use Rattle.std.proofs.Common.{rules, take, sym, ap, subst, ◌∙◌, refl, [], List, ℕ, cond}
-use Rattle.pcm_fixed.proofs.Items.{items-written}
+use Rattle.pcm_sequence.proofs.Items.{items-written}
 use Rattle.pcm_plan.specs.Plans.{PlanSeen, rate_in_plan}
 use Rattle.pcm_desk.specs.declared.device.Device.{Device}
 use Rattle.pcm_desk.specs.declared.turn.Turn.{Turn}

@@ -1,10 +1,10 @@
 use Rattle.std.proofs.Common.{take, ap, sym, subst, refl, ◌∙◌}
-use Rattle.pcm_fixed.proofs.Items.{items-written}
+use Rattle.pcm_sequence.proofs.Items.{items-written}
 use Rattle.pcm_oss.proofs.Limits.{usual-fragments}
 use Rattle.pcm_plan.specs.Plans.{rate_in_plan}
 use Rattle.pcm_chain.specs.Chains.{plan_in}
 use Rattle.pcm_desk.specs.declared.map_book.MapBook.{MapBook}
-use Rattle.pcm_desk.specs.declared.map_book.MapState.TheVariants.{Free}
+use Rattle.pcm_desk.specs.declared.run_state.RunState.TheVariants.{Free}
 use Rattle.pcm_desk.specs.MapBooks.{map_begun}
 use Rattle.pcm_desk.specs.MapSafe.{MapIsSafe}
 use Rattle.pcm_desk.specs.Openings.{ring_bytes}

@@ -1,7 +1,7 @@
 use Rattle.std.proofs.Common.{◌≡◌, ◌+◌, ◌-◌, ◌∙◌, ◌++◌, [], ℕ, List, length, take, drop, refl, ap, arith, length-append, length-take, length-drop}
 use Rattle.std.proofs.lemmas.List.{drop-drop}
-use Rattle.pcm_fixed.specs.Fixed.{fixed_items}
-use Rattle.pcm_fixed.proofs.Items.{items-count, items-written}
+use Rattle.pcm_sequence.specs.Fixed.{fixed_items}
+use Rattle.pcm_sequence.proofs.Items.{items-count, items-written}
 use Rattle.pcm_desk.specs.Openings.{ring_bytes}
 use Rattle.pcm_map.proofs.Areas.{front-poked, poked-within}
 use Rattle.pcm_map.proofs.Books.{poke-fits}

@@ -5,7 +5,7 @@ use Rattle.pcm_num.specs.Limit.{FitsBits}
 use Rattle.pcm_format.specs.Formats.{bits_of}
 use Rattle.pcm_format.specs.Layouts.{channels_of}
 use Rattle.pcm_mix.specs.Mix.{mixed}
-use Rattle.pcm_mixdev.proofs.FadedBits.{faded-fits}
+use Rattle.pcm_feeder.proofs.FadedBits.{faded-fits}
 use Rattle.pcm_desk.specs.Device.{seen}
 use Rattle.pcm_map.specs.Channels.{area_of}
 use Rattle.pcm_map.proofs.Books.{mixing-gives}

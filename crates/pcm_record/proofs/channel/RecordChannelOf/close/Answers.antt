@@ -3,7 +3,7 @@ use Rattle.pcm_path.proofs.Paths.{serves-as}
 use Rattle.pcm_plan.specs.Plans.{PlanSeen, rate_in_plan}
 use Rattle.pcm_chain.specs.Chains.{plan_in}
 use Rattle.pcm_desk.specs.declared.record_book.RecordBook.{RecordBook}
-use Rattle.pcm_desk.specs.RecordBooks.{is_record_free}
+use Rattle.pcm_desk.specs.RunStates.{is_unheld}
 use Rattle.pcm_desk.specs.RecordSafe.{RecordIsSafe}
 use Rattle.pcm_desk.proofs.RecordSafe.{record-safe-closed}
 use Rattle.pcm_record.proofs.Moving.{moves-ended}
@@ -26,6 +26,6 @@ pub returns-clause-moves : goal.returns-clause-moves
 returns-clause-moves g c = λ filters.
     let old = c.args.self.now in
     let closed = c.closed-self.ensures in
-    moves-ended g.B.Feeder.kind g.B.Feeder.kept filters old _ c.restart.ensures.kinds (λ p used. absurd (let clash : true ≡ false = sym (ap (λ (b : RecordBook). is_record_free b.state) closed) ∙ used in cc))
+    moves-ended g.B.Feeder.kind g.B.Feeder.kept filters old _ c.restart.ensures.kinds (λ p used. absurd (let clash : true ≡ false = sym (ap (λ (b : RecordBook). is_unheld b.state) closed) ∙ used in cc))
     (record { captured_none = ap (λ (b : RecordBook). b.captured) closed; kept_none = ap (λ (b : RecordBook). b.kept) closed; read_none = ap (λ (b : RecordBook). b.read) closed })
     c.restart.ensures.empty

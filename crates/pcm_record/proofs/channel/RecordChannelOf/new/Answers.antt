@@ -1,6 +1,6 @@
 use Rattle.std.proofs.Common.{ap, ◌∙◌}
 use Rattle.pcm_desk.specs.declared.record_book.RecordBook.{RecordBook}
-use Rattle.pcm_desk.specs.declared.record_book.RecordState.TheVariants.{Free}
+use Rattle.pcm_desk.specs.declared.run_state.RunState.TheVariants.{Free}
 use Rattle.pcm_record.proofs.Stands.{stands-empty}
 use Rattle.pcm_record.proofs.channel.RecordChannelOf.new.Goals as goal
 

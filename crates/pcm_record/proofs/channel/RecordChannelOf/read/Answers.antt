@@ -2,7 +2,7 @@ use Rattle.std.proofs.Common.{ℕ, ap, sym, ◌∙◌, length, take, drop, refl,
 use Rattle.std.proofs.lemmas.List.{length-take-le, take_at}
 use Rattle.pcm_ring.specs.Ring.{Ring}
 use Rattle.pcm_desk.specs.declared.record_book.RecordBook.{RecordBook}
-use Rattle.pcm_desk.specs.RecordBooks.{is_record_free}
+use Rattle.pcm_desk.specs.RunStates.{is_unheld}
 use Rattle.pcm_record.proofs.Moving.{moves-read, takes-read}
 use Rattle.pcm_record.proofs.Stands.{reads-count}
 use Rattle.pcm_record.proofs.channel.RecordChannelOf.read.Goals as goal
@@ -26,4 +26,4 @@ returns-clause-moves g c = λ filters.
     let taken = takes-read old (length c.args.out.now) c.take.result c.read-turn.result c.in_ok-answer.answer c.read-turn.ensures c.in_ok-answer.was c.take.ensures.count in
     moves-read g.B.Feeder.kind g.B.Feeder.kept filters c.take.result old _ refl refl (ap (λ (ring : Ring). ring.bytes) c.take.ensures.left)
     (reads-count c.take.result old.book c.read-turn.result.book taken.is)
-    (λ used. ap (λ (b : RecordBook). is_record_free b.state) (sym taken.is) ∙ used)
+    (λ used. ap (λ (b : RecordBook). is_unheld b.state) (sym taken.is) ∙ used)

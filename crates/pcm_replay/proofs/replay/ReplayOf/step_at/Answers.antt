@@ -1,6 +1,6 @@
 use Rattle.std.proofs.Common.{ℕ, List, take, refl, ◌∙◌, ap}
 use Rattle.pcm_engine.specs.Engines.{device_of}
-use Rattle.pcm_soaking.proofs.Running.{front, life-left}
+use Rattle.pcm_soak_command.proofs.Running.{front, life-left}
 use Rattle.pcm_replay.proofs.Plays.{handed-among, next-given, played}
 use Rattle.pcm_replay.proofs.replay.ReplayOf.step_at.Goals as goal
 

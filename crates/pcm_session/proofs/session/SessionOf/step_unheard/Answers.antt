@@ -1,7 +1,7 @@
 use Rattle.std.proofs.Common.{◌≡◌, ◌++◌, List, ℕ, drop, length, take, sym, ◌∙◌, subst, arith}
 use Rattle.std.proofs.lemmas.List.{take-append-le, take_all}
 use Rattle.pcm_engine.specs.Engines.{device_of}
-use Rattle.pcm_fixed.specs.Fixed.{fixed_items, fixed_len}
+use Rattle.pcm_sequence.specs.Fixed.{fixed_items, fixed_len}
 use Rattle.pcm_session.specs.Steps.{IsCallStep}
 use Rattle.pcm_session.proofs.Taken.{can-take}
 use Rattle.pcm_session.proofs.session.SessionOf.step_unheard.Goals as goal

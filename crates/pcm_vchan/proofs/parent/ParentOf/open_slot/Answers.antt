@@ -1,13 +1,14 @@
 use Rattle.std.proofs.Common.{[], refl, ap, ◌∙◌, arith}
-use Rattle.pcm_fixed.specs.Fixed.{fixed_items}
+use Rattle.pcm_sequence.specs.Fixed.{fixed_items}
 use Rattle.pcm_oss.specs.declared.event.Way.TheVariants.{Play, Record, Map}
 use Rattle.pcm_desk.specs.Desk.{slot_number}
 use Rattle.pcm_desk.specs.declared.play_book.PlayBook.{PlayBook}
 use Rattle.pcm_desk.specs.declared.record_book.RecordBook.{RecordBook}
 use Rattle.pcm_desk.specs.declared.map_book.MapBook.{MapBook}
 use Rattle.pcm_desk.specs.PlayBooks.{is_play_free, play_begun}
-use Rattle.pcm_desk.specs.RecordBooks.{is_record_free, record_begun}
-use Rattle.pcm_desk.specs.MapBooks.{is_map_free, map_begun}
+use Rattle.pcm_desk.specs.RunStates.{is_unheld}
+use Rattle.pcm_desk.specs.RecordBooks.{record_begun}
+use Rattle.pcm_desk.specs.MapBooks.{map_begun}
 use Rattle.pcm_play.specs.declared.channel.PlayChannelOf.{PlayChannelOf}
 use Rattle.pcm_play.specs.Channels.{PlayMoves}
 use Rattle.pcm_play.proofs.Moving as players
@@ -39,7 +40,7 @@ returns-in-Record-clause-recording g c = λ way.
     let filters = c.args.tables.now in
     let old = c.args.self.now in
     let told = c.number_of-first.ensures ∙ ap (λ way. slot_number old.device.play_slots way 0) c.in-Record.is in
-    let o = opened (λ (channel : RecordChannelOf _). channel.path) (λ channel. channel.book) (λ (book : RecordBook). is_record_free book.state) (slot_number old.device.play_slots Record) (record_begun c.args.settings) (RecordMoves kind kept filters [] 0) old.device
+    let o = opened (λ (channel : RecordChannelOf _). channel.path) (λ channel. channel.book) (λ (book : RecordBook). is_unheld book.state) (slot_number old.device.play_slots Record) (record_begun c.args.settings) (RecordMoves kind kept filters [] 0) old.device
     (record_channels old) (fixed_items c.open_in-in-Record.new.channels) c.open_in-in-Record.result c.number_of-first.result _ (λ place. omega (arith, told)) (recorders.moves-nothing kind kept filters [] 0) c.requires.served.recorders_own refl
     c.open_in-in-Record.ensures.told c.open_in-in-Record.ensures.begins in
     record { begins = o.begins; own = o.own; moves = o.kept; others = refl; mapped = refl }
@@ -51,7 +52,7 @@ returns-in-Map-clause-mapped g c = λ way.
     let filters = c.args.tables.now in
     let old = c.args.self.now in
     let told = c.number_of-first.ensures ∙ ap (λ way. slot_number old.device.play_slots way 0) c.in-Map.is in
-    let o = opened (λ (channel : MapChannelOf _). channel.path) (λ channel. channel.book) (λ (book : MapBook). is_map_free book.state) (slot_number old.device.play_slots Map) (map_begun c.args.settings) (MapKeeps kind kept filters (λ area. area)) old.device
+    let o = opened (λ (channel : MapChannelOf _). channel.path) (λ channel. channel.book) (λ (book : MapBook). is_unheld book.state) (slot_number old.device.play_slots Map) (map_begun c.args.settings) (MapKeeps kind kept filters (λ area. area)) old.device
     (map_channels old) (fixed_items c.open_in-in-Map.new.channels) c.open_in-in-Map.result c.number_of-first.result _ (λ place. omega (arith, told)) (map-keeps-nothing kind kept filters) c.requires.served.maps_own refl
     c.open_in-in-Map.ensures.told c.open_in-in-Map.ensures.begins in
     record { begins = o.begins; own = o.own; keeps = o.kept; others = refl; recording = refl }

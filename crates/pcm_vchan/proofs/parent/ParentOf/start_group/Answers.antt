@@ -1,6 +1,6 @@
 use Rattle.std.proofs.Common.{get_or, sym, ◌∙◌}
-use Rattle.pcm_fixed.specs.Fixed.{fixed_items}
-use Rattle.pcm_fixed.proofs.Items.{items-count}
+use Rattle.pcm_sequence.specs.Fixed.{fixed_items}
+use Rattle.pcm_sequence.proofs.Items.{items-count}
 use Rattle.pcm_desk.specs.Channels.{play_starting, record_starting}
 use Rattle.pcm_desk.specs.Device.{seen}
 use Rattle.pcm_play.specs.declared.channel.PlayChannelOf.{PlayChannelOf}

@@ -1,3 +1,0 @@
-pub mod Fading
-pub mod FadedFrames
-pub mod FadedBits
