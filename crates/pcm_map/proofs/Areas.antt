@@ -1,18 +1,15 @@
 -- The bytes of an area, taken in turn: in parts, and in one row.
-use Rattle.std.proofs.Common.{◌≡◌, ℕ, zero, suc, pos, ◌+◌, ◌-◌, ◌%◌, ◌<◌, ◌≤◌, true, cond, min, List, [], ◌∷◌, ◌++◌, refl, replicate, length, map, take, drop, get_or, inl, inr, sym, ap, ◌∙◌, arith, length-append, length-take, length-drop}
-use Rattle.std.specs.List.{list_all, range_with_len}
-use Rattle.std.specs.Prelude.{nat_le, ◌==◌}
+use Rattle.std.proofs.Common.{◌≡◌, ℕ, ◌+◌, ◌-◌, ◌%◌, ◌<◌, ◌≤◌, true, cond, min, List, ◌++◌, length, map, take, drop, get_or, inl, inr, sym, ap, ◌∙◌, arith, length-append, length-take, length-drop}
+use Rattle.std.specs.List.{range_with_len}
+use Rattle.std.specs.Prelude.{nat_le}
 use Rattle.std.proofs.Math.Nat.{mod-add-mod, mod-eq_of_lt, mod_self}
-use Rattle.std.proofs.lemmas.Bool.{and_parts, cases_lt, eqb-true}
+use Rattle.std.proofs.lemmas.Bool.{cases_lt}
 use Rattle.std.proofs.Math.Seq.{take-append-add}
 use Rattle.std.proofs.lemmas.Bool.Decides.{nat_tests}
-use Rattle.std.proofs.lemmas.List.{append_assoc, drop-take, get_or-take, get_or-drop, get_or-replicate, length-replicate, take-take}
+use Rattle.std.proofs.lemmas.List.{append_assoc, drop-take, get_or-take, get_or-drop, take-take}
 use Rattle.std.proofs.lemmas.List.FromFn.{fill_by_all, length-map-range_with_len}
 use Rattle.pcm_format.proofs.Ranges.{map-range-same, map-range-shift, map-range-add}
-use Rattle.pcm_format.specs.declared.format.Format.{Format}
-use Rattle.pcm_format.specs.Formats.{bytes_of}
-use Rattle.pcm_format.specs.Samples.{spelled}
-use Rattle.pcm_sound.specs.Areas.{area_bytes, poked, silent_byte}
+use Rattle.pcm_sound.specs.Areas.{area_bytes, poked}
 
 -- as many as were asked for
 pub length-area_bytes : (area : List ℕ) (from count : ℕ) → length (area_bytes area from count) ≡ count
@@ -96,15 +93,3 @@ pub poked-within : (offset : ℕ) (bytes area : List ℕ) → offset + length by
 poked-within offset bytes area fits =
     let e : nat_le (offset + length bytes) (length area) ≡ true = grind (arith, nat_tests) in
     ap (λ b. cond b (take offset area ++ bytes ++ drop (offset + length bytes) area) area) (sym e)
-
--- zeros are the same byte over and over
-zero-at : (xs : List ℕ) (i : ℕ) → list_all (λ b. b == 0) xs ≡ true → get_or xs i 0 ≡ 0
-zero-at [] i all = refl
-zero-at (x ∷ xs) zero all = eqb-true x 0 (and_parts (x == 0) (list_all (λ b. b == 0) xs) all).0
-zero-at (x ∷ xs) (suc i) all = zero-at xs i (and_parts (x == 0) (list_all (λ b. b == 0) xs) all).1
-
--- so where the spelling of 0 has none but zeros, silence is zeros
-pub silent-zeros : (format : Format) (n : ℕ) → list_all (λ b. b == 0) (spelled format (pos 0)) ≡ true → replicate n 0 ≡ map (silent_byte format) (range_with_len 0 n)
-silent-zeros format n all =
-    fill_by_all (silent_byte format) (replicate n 0) n 0 (length-replicate n 0)
-    (λ k below. get_or-replicate n k 0 0 below ∙ sym (zero-at (spelled format (pos 0)) (k % bytes_of format) all))

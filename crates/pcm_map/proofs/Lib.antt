@@ -1,4 +1,5 @@
 pub mod Areas
+pub mod Repeats
 pub mod Held
 pub mod Books
 pub mod Pieces

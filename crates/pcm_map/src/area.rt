@@ -1,7 +1,7 @@
 //! The bytes of an area: silent ones, and those that are taken in turn.
 
-ghost use Rattle.std.specs.Prelude.{◌≡◌, ◌≤◌, ◌<◌, ◌++◌, ◌%◌, ◌==◌, length, map, take, slice_index_or, if◌then◌else◌};
-ghost use Rattle.std.specs.List.{list_all, range_with_len};
+ghost use Rattle.std.specs.Prelude.{◌≡◌, ◌≤◌, ◌<◌, ◌+◌, ◌-◌, ◌++◌, ◌%◌, drop, length, map, min, take, slice_index_or, if◌then◌else◌};
+ghost use Rattle.std.specs.List.{range_with_len};
 ghost use Rattle.pcm_oss.specs.declared.fragments.TheConstants.{RING_BYTES};
 ghost use Rattle.pcm_oss.specs.Fragments.{AreFragments};
 ghost use Rattle.pcm_ring.specs.Ring.{free_bytes};
@@ -51,18 +51,7 @@ fn fill_silent(bytes: &mut [u8], format: Format)
     let mut sample = [0u8; 4];
     let silent = &mut sample[..format.bytes()];
     spell(format, 0, silent);
-    if is_zero(silent) {
-        bytes.fill(0);
-    } else {
-        repeat(silent, bytes);
-    }
-}
-
-// Whether each byte is 0.
-fn is_zero(sample: &[u8]) -> bool
-    ensures { result ≡ list_all (λ b. b == 0) sample.now }
-{
-    sample.iter().all(|byte| *byte == 0)
+    repeat(silent, bytes);
 }
 
 // Fills with the bytes of a sample, over and over.
@@ -71,9 +60,24 @@ fn repeat(sample: &[u8], bytes: &mut [u8])
     ensures { bytes.new
         ≡ map (λ b. slice_index_or sample.now (b % length sample.now) 0) (range_with_len 0 (length bytes.old)) }
 {
-    for at in 0..bytes.len() {
-        bytes[at] = sample[at % sample.len()];
+    let first = sample.len().min(bytes.len());
+    bytes[..first].copy_from_slice(&sample[..first]);
+    let mut filled = first;
+    while filled < bytes.len() {
+        filled += double(bytes, filled);
     }
+}
+
+// Copies the first `filled` bytes after themselves, as many as have room there. Returns how many these are.
+fn double(bytes: &mut [u8], filled: usize) -> usize
+    requires { filled ≤ length bytes.old }
+    ensures count { result ≡ min filled (length bytes.old - filled) }
+    ensures bytes { bytes.new ≡ take filled bytes.old ++ (take result bytes.old ++ drop (filled + result) bytes.old) }
+{
+    let (front, rest) = bytes.split_at_mut(filled);
+    let count = filled.min(rest.len());
+    rest[..count].copy_from_slice(&front[..count]);
+    count
 }
 
 /// Puts `count` bytes of an area into a ring, from the byte at `from` on. After the last byte of the area comes the first.
