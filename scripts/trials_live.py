@@ -126,11 +126,18 @@ PLAYERS = (("mpg123", "song.mp3", "-q -o oss -a /dev/dsp song.mp3"), ("ogg123", 
            ("mplayer", "song.wav", "-really-quiet -noconfig all -nolirc -ao oss song.wav"), ("sh", "song.wav", "-c 'cat song.wav >/dev/dsp'"))
 
 
+def is_there(name):
+    """Whether a player is in the path; sox also needs its handler of the device, which Debian packs apart."""
+    if not shutil.which(name):
+        return False
+    return name != "sox" or "oss" in subprocess.run([name, "--help"], stdout=subprocess.PIPE, universal_newlines=True, check=False).stdout.split()
+
+
 def try_live_players(program, folder):
     """Players of others are played to, where they are there, and each of their scripts replays to the byte."""
     songs(folder)
     for name, song, words in PLAYERS:
-        if not shutil.which(name) or not (folder / song).exists():
+        if not is_there(name) or not (folder / song).exists():
             print(f"embed: {name} isn't there, or its song, so tools/live isn't tried with it")
             continue
         status, said = live(folder, "--fast", "--program", program, "--script", f"{name}.script", "--", name, *shlex.split(words))
