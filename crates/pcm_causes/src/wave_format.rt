@@ -1,7 +1,5 @@
 //! What isn't supported of a wave's format.
 
-ghost use Rattle.std.specs.Prelude.{◌≡◌, length};
-
 use crate::numbers::{four_at, two_at};
 use crate::said::Said;
 use pcm_format::{RATE_LEAST, RATE_MOST};
@@ -18,9 +16,7 @@ const PCM_TAG: u32 = 1;
 const EXTENSIBLE_TAG: u32 = 0xFFFE;
 
 // The first number of a format that isn't supported, in the order in which they are judged. Its chunk states `size` bytes.
-pub(crate) fn format_fault(format: &[u8], size: u32) -> Said
-    requires { length format.now ≡ FORMAT_BYTES }
-{
+pub(crate) fn format_fault(format: &[u8; FORMAT_BYTES], size: u32) -> Said {
     let tag = two_at(format, 0);
     if size < PLAIN_BYTES {
         let words = " bytes; it has at least ";
@@ -47,9 +43,7 @@ pub(crate) fn format_fault(format: &[u8], size: u32) -> Said
     }
 }
 
-fn tag_fault(format: &[u8], tag: u32) -> Said
-    requires { length format.now ≡ FORMAT_BYTES }
-{
+fn tag_fault(format: &[u8; FORMAT_BYTES], tag: u32) -> Said {
     if tag == PCM_TAG {
         number_fault(format)
     } else {
@@ -77,9 +71,7 @@ fn coding(tag: u32) -> &'static str {
     }
 }
 
-fn number_fault(format: &[u8]) -> Said
-    requires { length format.now ≡ FORMAT_BYTES }
-{
+fn number_fault(format: &[u8; FORMAT_BYTES]) -> Said {
     let channels = two_at(format, 2);
     let rate = four_at(format, 4);
     let frame = two_at(format, 12);
@@ -121,8 +113,6 @@ fn frame_said(bits: u32, frame: u32, channels: u32) -> Said {
 }
 
 // The rate and the channels that a format states.
-pub(crate) fn shape_of(format: &[u8]) -> (u32, u32)
-    requires { length format.now ≡ FORMAT_BYTES }
-{
+pub(crate) fn shape_of(format: &[u8; FORMAT_BYTES]) -> (u32, u32) {
     (four_at(format, 4), two_at(format, 2))
 }

@@ -1,7 +1,6 @@
 //! Sums of eight samples at once.
-ghost use Rattle.std.specs.Prelude.{◌≡◌, ◌≤◌, ◌<◌, length, take, drop, ◌++◌, All};
-ghost use Rattle.pcm_num.specs.Limit.{FitsBits};
-ghost use Rattle.pcm_mix.specs.Mix.{mixed};
+ghost use Rattle.std.specs.Prelude.{◌≡◌, ◌<◌, take, drop, ◌++◌};
+ghost use Rattle.pcm_mix.specs.Mix.{CanMixFirst, mixed};
 
 use crate::limits::Limits;
 use std::simd::i32x8;
@@ -10,10 +9,7 @@ impl Limits {
     // Mixes the first eight samples.
     #[inline(always)]
     pub fn mix_eight(self, acc: &mut [i32], add: &[i32])
-        requires held_length { 8 ≤ length acc.old }
-        requires added_length { 8 ≤ length add.now }
-        requires held { All (FitsBits self.bits) acc.old }
-        requires added { All (FitsBits self.bits) add.now }
+        requires { CanMixFirst 8 self.bits acc.old add.now }
         ensures { acc.new ≡ mixed self.bits (take 8 acc.old) (take 8 add.now) ++ drop 8 acc.old }
     {
         if self.bits < 32 {
@@ -27,10 +23,7 @@ impl Limits {
     #[inline(always)]
     fn mix_eight_below(self, acc: &mut [i32], add: &[i32])
         requires few { self.bits < 32 }
-        requires held_length { 8 ≤ length acc.old }
-        requires added_length { 8 ≤ length add.now }
-        requires held { All (FitsBits self.bits) acc.old }
-        requires added { All (FitsBits self.bits) add.now }
+        requires blocks { CanMixFirst 8 self.bits acc.old add.now }
         ensures { acc.new ≡ mixed self.bits (take 8 acc.old) (take 8 add.now) ++ drop 8 acc.old }
     {
         let sum = i32x8::from_slice(acc) + i32x8::from_slice(add);
@@ -45,10 +38,7 @@ impl Limits {
 // sign of that, but for the first one, which is the other way round.
 #[inline(always)]
 fn mix_eight_whole(acc: &mut [i32], add: &[i32])
-    requires held_length { 8 ≤ length acc.old }
-    requires added_length { 8 ≤ length add.now }
-    requires held { All (FitsBits 32) acc.old }
-    requires added { All (FitsBits 32) add.now }
+    requires { CanMixFirst 8 32 acc.old add.now }
     ensures { acc.new ≡ mixed 32 (take 8 acc.old) (take 8 add.now) ++ drop 8 acc.old }
 {
     let first = i32x8::from_slice(acc);

@@ -1,7 +1,7 @@
 //! The sum of two blocks.
 ghost use Rattle.std.specs.Prelude.{◌≡◌, ◌≤◌, ◌<◌, length, take, drop, ◌++◌, All};
 ghost use Rattle.pcm_num.specs.Limit.{FitsBits};
-ghost use Rattle.pcm_mix.specs.Mix.{mixed};
+ghost use Rattle.pcm_mix.specs.Mix.{CanMix, mixed};
 
 use crate::limits::Limits;
 
@@ -25,9 +25,7 @@ pub fn mix_into(acc: &mut [i32], add: &[i32], bits: u32)
 // Is copied for both ways to add, so that no loop asks which one it is.
 #[inline(always)]
 fn mix_within(acc: &mut [i32], add: &[i32], limits: Limits)
-    requires lengths { length acc.old ≡ length add.now }
-    requires held { All (FitsBits limits.bits) acc.old }
-    requires added { All (FitsBits limits.bits) add.now }
+    requires { CanMix limits.bits acc.old add.now }
     ensures value { acc.new ≡ mixed limits.bits acc.old add.now }
     ensures fits { All (FitsBits limits.bits) acc.new }
 {
@@ -38,9 +36,7 @@ fn mix_within(acc: &mut [i32], add: &[i32], limits: Limits)
 // Mixes samples from the front, eight at a time, as many as that takes, and tells how many.
 #[inline(always)]
 fn mix_lanes(acc: &mut [i32], add: &[i32], limits: Limits) -> usize
-    requires lengths { length acc.old ≡ length add.now }
-    requires held { All (FitsBits limits.bits) acc.old }
-    requires added { All (FitsBits limits.bits) add.now }
+    requires { CanMix limits.bits acc.old add.now }
     ensures most { result ≤ length acc.old }
     ensures value { acc.new ≡ mixed limits.bits (take result acc.old) (take result add.now) ++ drop result acc.old }
 {
@@ -55,9 +51,7 @@ fn mix_lanes(acc: &mut [i32], add: &[i32], limits: Limits) -> usize
 // Mixes samples one by one.
 #[inline(always)]
 fn mix_samples(acc: &mut [i32], add: &[i32], limits: Limits)
-    requires lengths { length acc.old ≡ length add.now }
-    requires held { All (FitsBits limits.bits) acc.old }
-    requires added { All (FitsBits limits.bits) add.now }
+    requires { CanMix limits.bits acc.old add.now }
     ensures { acc.new ≡ mixed limits.bits acc.old add.now }
 {
     for (at, more) in add.iter().enumerate() {

@@ -4,7 +4,7 @@ ghost use Rattle.std.specs.Prelude.{◌≡◌, ◌+◌, ◌≤◌, length, take,
 ghost use Rattle.pcm_oss.specs.declared.reply.Answer.TheVariants.{Space, Pointer, Errors, Got};
 ghost use Rattle.pcm_oss.specs.declared.reply.TheConstants.{REPLY_BYTES};
 ghost use Rattle.pcm_report.specs.Lines.{answer_text, errno_word, plain_answer, reply_line, result_text};
-ghost use Rattle.pcm_report.specs.Texts.{IsPut};
+ghost use Rattle.pcm_report.specs.Texts.{HasRoom, IsPutWithin};
 
 use crate::texts::{put_bytes, put_field, put_number, put_text};
 use pcm_oss::{Answer, Errno, ReplyBuf};
@@ -29,10 +29,8 @@ pub fn write_line(number: u32, reply: &ReplyBuf, out: &mut [u8]) -> usize
 }
 
 fn put_result(out: &mut [u8], at: usize, reply: Result<Answer, Errno>, read: &[u8]) -> usize
-    requires room { at + TEXT_BYTES ≤ length out.old }
-    requires few { length read.now ≤ REPLY_BYTES }
-    ensures put { IsPut (result_text reply read.now) at result out.old out.new }
-    ensures within { result ≤ at + TEXT_BYTES }
+    requires { HasRoom TEXT_BYTES REPLY_BYTES at read.now out.old }
+    ensures { IsPutWithin TEXT_BYTES (result_text reply read.now) at result out.old out.new }
 {
     match reply {
         Ok(answer) => put_answer(out, at, answer, read),
@@ -58,10 +56,8 @@ fn errno_word(errno: Errno) -> &'static str
 }
 
 fn put_answer(out: &mut [u8], at: usize, answer: Answer, read: &[u8]) -> usize
-    requires room { at + TEXT_BYTES ≤ length out.old }
-    requires few { length read.now ≤ REPLY_BYTES }
-    ensures put { IsPut (answer_text answer read.now) at result out.old out.new }
-    ensures within { result ≤ at + TEXT_BYTES }
+    requires { HasRoom TEXT_BYTES REPLY_BYTES at read.now out.old }
+    ensures { IsPutWithin TEXT_BYTES (answer_text answer read.now) at result out.old out.new }
 {
     match answer {
         Answer::Done => put_text(out, at, "ok"),
@@ -93,8 +89,7 @@ fn put_space(
     bytes: u32,
 ) -> usize
     requires room { at + TEXT_BYTES ≤ length out.old }
-    ensures put { IsPut (plain_answer (Space fragments fragstotal fragsize bytes)) at result out.old out.new }
-    ensures within { result ≤ at + TEXT_BYTES }
+    ensures { IsPutWithin TEXT_BYTES (plain_answer (Space fragments fragstotal fragsize bytes)) at result out.old out.new }
 {
     let at = put_text(out, at, "ok");
     let at = put_field(out, at, "fragments", u64::from(fragments));
@@ -105,8 +100,7 @@ fn put_space(
 
 fn put_pointer(out: &mut [u8], at: usize, bytes: u64, blocks: u64, ptr: u32) -> usize
     requires room { at + TEXT_BYTES ≤ length out.old }
-    ensures put { IsPut (plain_answer (Pointer bytes blocks ptr)) at result out.old out.new }
-    ensures within { result ≤ at + TEXT_BYTES }
+    ensures { IsPutWithin TEXT_BYTES (plain_answer (Pointer bytes blocks ptr)) at result out.old out.new }
 {
     let at = put_text(out, at, "ok");
     let at = put_field(out, at, "bytes", bytes);
@@ -116,8 +110,7 @@ fn put_pointer(out: &mut [u8], at: usize, bytes: u64, blocks: u64, ptr: u32) -> 
 
 fn put_errors(out: &mut [u8], at: usize, underruns: u32, overruns: u32) -> usize
     requires room { at + TEXT_BYTES ≤ length out.old }
-    ensures put { IsPut (plain_answer (Errors underruns overruns)) at result out.old out.new }
-    ensures within { result ≤ at + TEXT_BYTES }
+    ensures { IsPutWithin TEXT_BYTES (plain_answer (Errors underruns overruns)) at result out.old out.new }
 {
     let at = put_text(out, at, "ok");
     let at = put_field(out, at, "underruns", u64::from(underruns));
@@ -125,10 +118,8 @@ fn put_errors(out: &mut [u8], at: usize, underruns: u32, overruns: u32) -> usize
 }
 
 fn put_got(out: &mut [u8], at: usize, count: u32, read: &[u8]) -> usize
-    requires room { at + TEXT_BYTES ≤ length out.old }
-    requires few { length read.now ≤ REPLY_BYTES }
-    ensures put { IsPut (answer_text (Got count) read.now) at result out.old out.new }
-    ensures within { result ≤ at + TEXT_BYTES }
+    requires { HasRoom TEXT_BYTES REPLY_BYTES at read.now out.old }
+    ensures { IsPutWithin TEXT_BYTES (answer_text (Got count) read.now) at result out.old out.new }
 {
     let at = put_text(out, at, "ok ");
     let at = put_number(out, at, u64::from(count));
