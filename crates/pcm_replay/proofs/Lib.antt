@@ -4,6 +4,7 @@ pub mod Plain
 pub mod Quiet
 pub mod Statuses
 pub mod Unfailing
+pub mod Judged
 pub mod Cuts
 pub mod Plays
 pub mod Turns

@@ -39,7 +39,7 @@ call-rose (Checks inputs) before after cut = output-rose (output_of (Checks inpu
 call-rose (Converts out conversion) before after cut = output-rose (output_of (Converts out conversion)) before after cut
 call-rose (Soaks n) before after cut = output-rose (output_of (Soaks n)) before after cut
 
-cut-rose : (call : Call) → IsCut call → WriteRose call.before call.after
+pub cut-rose : (call : Call) → IsCut call → WriteRose call.before call.after
 cut-rose call (InForms cut) = inr cut.forms.rose
 cut-rose call (InFaultLine cut) = inr cut.line.put.rose
 cut-rose call (InOutput cut) = call-rose cut.accepted call.before call.after cut.cut

@@ -10,9 +10,9 @@ use Rattle.pcm_verdict.specs.Outputs.{device_bytes_in, header_in}
 use Rattle.pcm_verdict.specs.Plain.{IsAcceptedRun, PlayAlike, plain_output, story_in}
 use Rattle.pcm_verdict.specs.Verdict.{Accepted, Checks, Conversion, Converts, Inputs, Runs, Soaks}
 use Rattle.pcm_inputs.specs.Outside.{Lent}
-use Rattle.pcm_replay.specs.Calls.{Call, Words, texts}
+use Rattle.pcm_replay.specs.Calls.{Call}
 use Rattle.pcm_soak_command.specs.Soaking.{RanSoak}
-use Rattle.pcm_replay.specs.Endings.{Does, RanInputs}
+use Rattle.pcm_replay.specs.Endings.{Does, Finishes, RanInputs}
 use Rattle.pcm_replay.specs.Outcomes.{IsAccepted}
 use Rattle.pcm_convert_command.specs.Written.{WritesAll, WritesWhole}
 
@@ -59,6 +59,12 @@ abbrev pub RunsEngine : {B : Type 0} → (B → Kind) → (B → Kept) → Lent 
 RunsEngine kind kept ran call = (name : List ℕ) (inputs : Inputs) → AsksFor call (Runs name inputs)
     → IsSomeAnd ran.exit.now (λ engine. RanInputs kind kept engine inputs)
 
-abbrev pub SoaksEngine : {B : Type 0} → (B → Kind) → (B → Kept) → Lent (Option (EngineOf B)) → Words → Type 0
-SoaksEngine kind kept ran words = (n : ℕ) → command_of (texts words) ≡ Some (SoakRun n)
+abbrev pub SoaksEngine : {B : Type 0} → (B → Kind) → (B → Kept) → Lent (Option (EngineOf B)) → Call → Type 0
+SoaksEngine kind kept ran call = (n : ℕ) → command_of call.words ≡ Some (SoakRun n)
     → IsSomeAnd ran.exit.now (λ engine. RanSoak kind kept engine n)
+
+-- the words spell a command, which was done to its end, and the engine that ran is left
+pub record FinishesAs {B : Type 0} (kind : B → Kind) (kept : B → Kept) (ran : Lent (Option (EngineOf B))) (call : Call) : Type 0 where
+  pub does : Finishes kind kept ran call
+  pub run : RunsEngine kind kept ran call
+  pub soak : SoaksEngine kind kept ran call

@@ -7,7 +7,7 @@ use Rattle.pcm_verdict.specs.Commands.{Command, command_of}
 use Rattle.pcm_verdict.specs.Faults.{Fault, Usage, Missing, BadConfig, BadWave, BadScript, usage_line}
 use Rattle.pcm_verdict.specs.Verdict.{Accepted, command_judged, verdict}
 use Rattle.pcm_inputs.specs.Commands.{IsOf, MayRead, WriteNoFile}
-use Rattle.pcm_inputs.specs.Outside.{OneRose, Outside}
+use Rattle.pcm_inputs.specs.Outside.{NoneRose, OneRose, Outside, WriteRose}
 use Rattle.pcm_inputs.specs.Reads.{CutsLine, FailsToReadOne, Lacks, Part, RefusesPart}
 use Rattle.pcm_replay.specs.Calls.{Call}
 use Rattle.pcm_replay.specs.Cuts.{CutsCall}
@@ -176,3 +176,18 @@ WasAccepted call = IsTrue call.before.files.tells → IsAcceptedBy (verdict_of c
 abbrev pub FailsAtLine : Call → Type 0
 FailsAtLine call = IsTrue call.before.files.tells → IsRefusedBy (verdict_of call)
     → Rose call.before.sink.faults call.after.sink.faults
+
+-- 7: a write failed, and what is left is a prefix of what was to be written. Of words that ask for no file it is the sink that failed.
+pub record FailsToWrite (call : Call) : Type 0 where
+  pub rose : WriteRose call.before call.after
+  pub line : FailsAtLine call
+  pub sink : FailsAtSink call
+  pub left : IsCut call
+
+-- the status is one with which the verdict may end, and where nothing failed it is the verdict's; what is accepted counts no failure
+pub record IsJudged (call : Call) (status : ℕ) : Type 0 where
+  pub completeness : MayEndAs call status
+  pub unfailing : EndsUnfailing call status
+  pub formless : EndsFormless call status
+  pub accepted : status ≡ 0 → WasAccepted call
+  pub no_rise : status ≡ 0 → NoneRose call.before call.after

@@ -2,11 +2,10 @@
 
 ghost use Rattle.std.specs.Prelude.{◌≡◌, ◌≢◌, IfErr, IfOk};
 ghost use Rattle.pcm_feeder.specs.Racks.{AreRacks, list_of};
-ghost use Rattle.pcm_inputs.specs.Outside.{NoneRose, WriteRose, both, ◌over◌};
-ghost use Rattle.pcm_replay.specs.Accepted.{LeavesAlike, LeavesCheck, LeavesPlain, LeavesRun, LeavesSoak, LeavesWave, RunsEngine, SoaksEngine};
+ghost use Rattle.pcm_replay.specs.Accepted.{FinishesAs, LeavesAlike, LeavesCheck, LeavesPlain, LeavesRun, LeavesSoak, LeavesWave};
 ghost use Rattle.pcm_replay.specs.Calls.{call};
-ghost use Rattle.pcm_replay.specs.Endings.{DoesWords, EndsCall, Finishes};
-ghost use Rattle.pcm_replay.specs.Outcomes.{CannotReadOne, EndsFormless, EndsUnfailing, FailsAtLine, FailsAtSink, IsCut, IsStatus, LacksMemory, MayEndAs, RefusesConfig, RefusesScript, RefusesWave, RefusesWords, WasAccepted};
+ghost use Rattle.pcm_replay.specs.Endings.{DoesWords, EndsCall};
+ghost use Rattle.pcm_replay.specs.Outcomes.{CannotReadOne, FailsToWrite, IsJudged, IsStatus, LacksMemory, RefusesConfig, RefusesScript, RefusesWave, RefusesWords};
 
 use crate::commands::do_command;
 use crate::refusals::refuse_words;
@@ -27,47 +26,27 @@ pub fn dsp_main<B: Feeder, F: Files, K: Sink>(
     ran: &mut Option<EngineOf<B>>,
 ) -> u8
     requires kinds { AreRacks B.kind (list_of racks) }
-
     ensures statuses { IsStatus result }
-    ensures completeness { MayEndAs (call F.seen K.seen words files out) result }
-    ensures unfailing { EndsUnfailing (call F.seen K.seen words files out) result }
-
-    // 0: what the words ask for was done to its end.
-    ensures accepted { result ≡ 0 → WasAccepted (call F.seen K.seen words files out) }
-    // A run: the device file has exactly its bytes, and exactly the replies were put.
+    ensures judged { IsJudged (call F.seen K.seen words files out) result }
+    // 0, a run: the device file has exactly its bytes, and exactly the replies were put.
     ensures headline { result ≡ 0 → LeavesRun (call F.seen K.seen words files out) }
-    ensures engine { result ≡ 0 → RunsEngine B.kind B.kept ran (call F.seen K.seen words files out) }
-    // A run without a shortage: the file has what is heard of its clients from their starts to their ends, whatever was counted.
+    // Without a shortage it has what is heard of its clients from their starts to their ends,
     ensures plain { result ≡ 0 → LeavesPlain (call F.seen K.seen words files out) }
-    // Its device gets the bytes of any other run whose clients sound alike, as far as both go.
+    // and the bytes of any other run whose clients sound alike, as far as both go.
     ensures alike { result ≡ 0 → LeavesAlike (call F.seen K.seen words files out) }
-    // A check: nothing was written, and exactly its line was put.
+    // 0, a check, a soak and a conversion: exactly its file, if it has one, and exactly its line.
     ensures checked { result ≡ 0 → LeavesCheck (call F.seen K.seen words files out) }
-    // A soak, whatever the files tell: nothing was written, exactly its line was put, and its engine ran through the number's script.
     ensures soaked { result ≡ 0 → LeavesSoak (call F.seen K.seen words files out) }
-    ensures soak_engine { result ≡ 0 → SoaksEngine B.kind B.kept ran words }
-    // A conversion: the file is exactly the converted wave, and exactly its line was put.
     ensures converted { result ≡ 0 → LeavesWave (call F.seen K.seen words files out) }
-    ensures finished { result ≡ 0 → Finishes B.kind B.kept ran (call F.seen K.seen words files out) }
-    ensures no_rise { result ≡ 0 → NoneRose over both F.seen K.seen files out }
+    ensures finished { result ≡ 0 → FinishesAs B.kind B.kept ran (call F.seen K.seen words files out) }
     ensures stays { result ≢ 0 → ran.new ≡ ran.old }
-
-    // 2, 3, 4, 5, 6: nothing was written, and exactly the line of the fault was put.
+    // 2 to 6: nothing was written, and exactly the line of the fault was put.
     ensures usage { result ≡ 2 → RefusesWords (call F.seen K.seen words files out) }
-    ensures only_usage { EndsFormless (call F.seen K.seen words files out) result }
     ensures read_cause { result ≡ 3 → CannotReadOne (call F.seen K.seen words files out) }
     ensures bad_config { result ≡ 4 → RefusesConfig (call F.seen K.seen words files out) }
     ensures bad_script { result ≡ 5 → RefusesScript (call F.seen K.seen words files out) }
     ensures bad_wave { result ≡ 6 → RefusesWave (call F.seen K.seen words files out) }
-
-    // 7: a write failed, and what is left is a prefix of what was to be written.
-    ensures write_cause { result ≡ 7 → WriteRose over both F.seen K.seen files out }
-    ensures line_cause { result ≡ 7 → FailsAtLine (call F.seen K.seen words files out) }
-    // Of words that ask for no file to be written, it is the sink that failed, whether contents are told or not.
-    ensures no_file { result ≡ 7 → FailsAtSink (call F.seen K.seen words files out) }
-    ensures cut { result ≡ 7 → IsCut (call F.seen K.seen words files out) }
-
-    // 8: nothing was written or put.
+    ensures cut { result ≡ 7 → FailsToWrite (call F.seen K.seen words files out) }
     ensures memory { result ≡ 8 → LacksMemory (call F.seen K.seen words files out) }
 {
     match carry_out(alloc, words, files, out, racks) {
