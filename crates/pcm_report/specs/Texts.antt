@@ -8,7 +8,7 @@ pub record IsPut (text : List ℕ) (from to : ℕ) (old new : List ℕ) : Type 0
   pub rest : drop to new ≡ drop to old
 
 -- a slice has room for the text of a reply whose read got these bytes, from a place on
-pub record HasRoom (text_bytes read_bytes from : ℕ) (read old : List ℕ) : Type 0 where
+pub record HasTextRoom (text_bytes read_bytes from : ℕ) (read old : List ℕ) : Type 0 where
   pub room : from + text_bytes ≤ length old
   pub few : length read ≤ read_bytes
 

@@ -4,7 +4,7 @@ ghost use Rattle.std.specs.Prelude.{◌≡◌, ◌+◌, ◌≤◌, length, take,
 ghost use Rattle.pcm_oss.specs.declared.reply.Answer.TheVariants.{Space, Pointer, Errors, Got};
 ghost use Rattle.pcm_oss.specs.declared.reply.TheConstants.{REPLY_BYTES};
 ghost use Rattle.pcm_report.specs.Lines.{answer_text, errno_word, plain_answer, reply_line, result_text};
-ghost use Rattle.pcm_report.specs.Texts.{HasRoom, IsPutWithin};
+ghost use Rattle.pcm_report.specs.Texts.{HasTextRoom, IsPutWithin};
 
 use crate::texts::{put_bytes, put_field, put_number, put_text};
 use pcm_oss::{Answer, Errno, ReplyBuf};
@@ -29,7 +29,7 @@ pub fn write_line(number: u32, reply: &ReplyBuf, out: &mut [u8]) -> usize
 }
 
 fn put_result(out: &mut [u8], at: usize, reply: Result<Answer, Errno>, read: &[u8]) -> usize
-    requires { HasRoom TEXT_BYTES REPLY_BYTES at read.now out.old }
+    requires { HasTextRoom TEXT_BYTES REPLY_BYTES at read.now out.old }
     ensures { IsPutWithin TEXT_BYTES (result_text reply read.now) at result out.old out.new }
 {
     match reply {
@@ -56,7 +56,7 @@ fn errno_word(errno: Errno) -> &'static str
 }
 
 fn put_answer(out: &mut [u8], at: usize, answer: Answer, read: &[u8]) -> usize
-    requires { HasRoom TEXT_BYTES REPLY_BYTES at read.now out.old }
+    requires { HasTextRoom TEXT_BYTES REPLY_BYTES at read.now out.old }
     ensures { IsPutWithin TEXT_BYTES (answer_text answer read.now) at result out.old out.new }
 {
     match answer {
@@ -118,7 +118,7 @@ fn put_errors(out: &mut [u8], at: usize, underruns: u32, overruns: u32) -> usize
 }
 
 fn put_got(out: &mut [u8], at: usize, count: u32, read: &[u8]) -> usize
-    requires { HasRoom TEXT_BYTES REPLY_BYTES at read.now out.old }
+    requires { HasTextRoom TEXT_BYTES REPLY_BYTES at read.now out.old }
     ensures { IsPutWithin TEXT_BYTES (answer_text (Got count) read.now) at result out.old out.new }
 {
     let at = put_text(out, at, "ok ");
