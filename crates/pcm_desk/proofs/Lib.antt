@@ -6,15 +6,12 @@ pub mod PlayStates
 pub mod PlaySafeAsking
 pub mod PlayHere
 pub mod PlayLeaves
-pub mod PlayHolding
 pub mod RecordAsking
 pub mod RecordSafe
 pub mod RecordLeaves
-pub mod RecordHolding
 pub mod MapAsking
 pub mod MapSafe
 pub mod MapLeaves
-pub mod MapHolding
 pub mod Channels
 pub mod Grouping
 pub mod Members
