@@ -1,8 +1,8 @@
+pub mod PlayTurns
 pub mod PlaySafe
 pub mod Openings
 pub mod Delays
 pub mod PlayAsking
-pub mod PlayStates
 pub mod PlaySafeAsking
 pub mod PlayHere
 pub mod PlayLeaves

@@ -1,10 +1,10 @@
 -- What a request does to a book that plays: it sets the opening up again, notes something, starts or stops the book, lets it play to
 -- its end, or drops its bytes.
-use Rattle.std.proofs.Common.{◌≡◌, ℕ, Bool, true, false, cond, ◌⊎◌, inl, inr, refl}
+use Rattle.std.proofs.Common.{◌≡◌, ℕ, Bool, true, false, cond, ◌⊎◌, inl, inr, refl, arith}
 use Rattle.std.specs.Prelude.{nat_lt}
 use Rattle.pcm_oss.specs.declared.reply.Errno.TheVariants.{Busy, Inval}
 use Rattle.pcm_oss.specs.declared.request.Request.{Request}
-use Rattle.pcm_oss.specs.declared.request.Request.TheVariants.{SetFmt, Speed, Channels, GetFmts, GetCaps, GetBlkSize, SetFragment, GetOSpace, GetISpace, GetOPtr, GetIPtr, GetODelay, GetError, SetTrigger, GetTrigger, SetPlayVol, GetPlayVol, Post, Sync, Halt}
+use Rattle.pcm_oss.specs.declared.request.Request.TheVariants.{GetOSpace, GetOPtr, GetODelay, GetError, SetTrigger, SetPlayVol, GetPlayVol, Post, Sync, Halt}
 use Rattle.pcm_oss.specs.Volumes.{is_volume}
 use Rattle.pcm_rate.specs.declared.rate.Rate.{Rate}
 use Rattle.pcm_desk.specs.declared.here.Here.{Here}
@@ -72,48 +72,20 @@ set_trigger_in false false bits rate here book = trigger_in (has_play_bit bits) 
 
 -- any request
 pub ask-does : (rate : Rate) (mix_rate : ℕ) (here : Here) (request : Request) (book : PlayBook) → Does rate here request book (play_ask rate mix_rate here request book).book
-ask-does rate mix_rate here (SetFmt code) book = common_ask rate here (SetFmt code) book
-ask-does rate mix_rate here (Speed speed) book = common_ask rate here (Speed speed) book
-ask-does rate mix_rate here (Channels channels) book = common_ask rate here (Channels channels) book
-ask-does rate mix_rate here GetFmts book = common_ask rate here GetFmts book
-ask-does rate mix_rate here GetCaps book = common_ask rate here GetCaps book
-ask-does rate mix_rate here GetBlkSize book = common_ask rate here GetBlkSize book
-ask-does rate mix_rate here (SetFragment arg) book = common_ask rate here (SetFragment arg) book
-ask-does rate mix_rate here GetOSpace book = untouched rate here GetOSpace book
-ask-does rate mix_rate here GetISpace book = common_ask rate here GetISpace book
 ask-does rate mix_rate here GetOPtr book = Noting (played_of book) book.volume book.underruns (record { told_is = inr refl; volume_is = λ v. v }) refl
-ask-does rate mix_rate here GetIPtr book = common_ask rate here GetIPtr book
-ask-does rate mix_rate here GetODelay book = untouched rate here GetODelay book
 ask-does rate mix_rate here GetError book = Noting book.opening.told book.volume 0 (record { told_is = inl refl; volume_is = λ v. v }) refl
 ask-does rate mix_rate here (SetTrigger bits) book = set_trigger_in (nat_lt 3 bits) (is_draining book.state) bits rate here book
-ask-does rate mix_rate here GetTrigger book = common_ask rate here GetTrigger book
 ask-does rate mix_rate here (SetPlayVol volume) book = volume_in (is_volume volume) volume rate here (SetPlayVol volume) book refl
-ask-does rate mix_rate here GetPlayVol book = untouched rate here GetPlayVol book
 ask-does rate mix_rate here Post book = post_in book.opening.trigger rate here Post book
 ask-does rate mix_rate here Sync book = Ending refl
 ask-does rate mix_rate here Halt book = Dropping refl refl
+ask-does rate mix_rate here GetOSpace book = untouched rate here GetOSpace book
+ask-does rate mix_rate here GetODelay book = untouched rate here GetODelay book
+ask-does rate mix_rate here GetPlayVol book = untouched rate here GetPlayVol book
+ask-does rate mix_rate here request book = common_ask rate here request book
 
 -- what isn't asked of a book that plays alone is asked of its opening
 pub asks-common : (rate : Rate) (mix_rate : ℕ) (here : Here) (request : Request) (book : PlayBook) → (request ≡ GetOSpace → ⊥) → (request ≡ GetOPtr → ⊥) → (request ≡ GetODelay → ⊥) → (request ≡ GetError → ⊥)
     → ((bits : ℕ) → request ≡ SetTrigger bits → ⊥) → ((volume : ℕ) → request ≡ SetPlayVol volume → ⊥) → (request ≡ GetPlayVol → ⊥) → (request ≡ Post → ⊥) → (request ≡ Sync → ⊥) → (request ≡ Halt → ⊥)
     → play_with_opening book (openings.ask (is_play_setup book.state) PLAY_BIT request book.opening) ≡ play_ask rate mix_rate here request book
-asks-common rate mix_rate here (SetFmt code) book space pointer delay error trigger volume_set volume_told post sync halt = refl
-asks-common rate mix_rate here (Speed speed) book space pointer delay error trigger volume_set volume_told post sync halt = refl
-asks-common rate mix_rate here (Channels channels) book space pointer delay error trigger volume_set volume_told post sync halt = refl
-asks-common rate mix_rate here GetFmts book space pointer delay error trigger volume_set volume_told post sync halt = refl
-asks-common rate mix_rate here GetCaps book space pointer delay error trigger volume_set volume_told post sync halt = refl
-asks-common rate mix_rate here GetBlkSize book space pointer delay error trigger volume_set volume_told post sync halt = refl
-asks-common rate mix_rate here (SetFragment arg) book space pointer delay error trigger volume_set volume_told post sync halt = refl
-asks-common rate mix_rate here GetTrigger book space pointer delay error trigger volume_set volume_told post sync halt = refl
-asks-common rate mix_rate here GetISpace book space pointer delay error trigger volume_set volume_told post sync halt = refl
-asks-common rate mix_rate here GetIPtr book space pointer delay error trigger volume_set volume_told post sync halt = refl
-asks-common rate mix_rate here GetOSpace book space pointer delay error trigger volume_set volume_told post sync halt = absurd (space refl)
-asks-common rate mix_rate here GetOPtr book space pointer delay error trigger volume_set volume_told post sync halt = absurd (pointer refl)
-asks-common rate mix_rate here GetODelay book space pointer delay error trigger volume_set volume_told post sync halt = absurd (delay refl)
-asks-common rate mix_rate here GetError book space pointer delay error trigger volume_set volume_told post sync halt = absurd (error refl)
-asks-common rate mix_rate here (SetTrigger bits) book space pointer delay error trigger volume_set volume_told post sync halt = absurd (trigger bits refl)
-asks-common rate mix_rate here (SetPlayVol volume) book space pointer delay error trigger volume_set volume_told post sync halt = absurd (volume_set volume refl)
-asks-common rate mix_rate here GetPlayVol book space pointer delay error trigger volume_set volume_told post sync halt = absurd (volume_told refl)
-asks-common rate mix_rate here Post book space pointer delay error trigger volume_set volume_told post sync halt = absurd (post refl)
-asks-common rate mix_rate here Sync book space pointer delay error trigger volume_set volume_told post sync halt = absurd (sync refl)
-asks-common rate mix_rate here Halt book space pointer delay error trigger volume_set volume_told post sync halt = absurd (halt refl)
+asks-common rate mix_rate here request book space pointer delay error trigger volume_set volume_told post sync halt = grind arith
