@@ -1,21 +1,19 @@
 -- No channel of a desk depends on another, but for those of a group that starts, and no event but its own changes what a descriptor holds.
-use Rattle.std.proofs.Common.{◌≡◌, ℕ, ◌<◌, Bool, true, false, cond, List, length, set, get_or, Option, Some, None, Result, inl, inr, refl, sym, ap, ◌∙◌, subst, get_or-set_same, get_or-set_other}
+use Rattle.std.proofs.Common.{arith, ◌≡◌, ℕ, ◌<◌, true, false, List, length, set, get_or, Option, Some, None, Result, refl, sym, ap, ◌∙◌, subst, get_or-set_same, get_or-set_other}
 use Rattle.std.specs.Prelude.{◌≢◌}
 use Rattle.std.proofs.lemmas.Bool.{cases_lt}
 use Rattle.std.proofs.lemmas.List.{get_or_past, set_past}
 use Rattle.pcm_format.specs.declared.settings.Settings.{Settings}
 use Rattle.pcm_oss.specs.declared.event.Event.{Event}
-use Rattle.pcm_oss.specs.declared.event.Event.TheVariants.{Open, Write, Poke, Read, Ioctl, Join, StartGroup, Close, Mixer, Intr}
+use Rattle.pcm_oss.specs.declared.event.Event.TheVariants.{Open, StartGroup, Mixer, Intr}
 use Rattle.pcm_oss.specs.declared.event.Way.{Way}
-use Rattle.pcm_oss.specs.declared.event.Way.TheVariants.{Play, Record, Map}
-use Rattle.pcm_oss.specs.declared.mix_request.MixRequest.{MixRequest}
 use Rattle.pcm_oss.specs.declared.reply.Answer.{Answer}
 use Rattle.pcm_oss.specs.declared.reply.Errno.{Errno}
 use Rattle.pcm_oss.specs.declared.reply.Errno.TheVariants.{Busy, Exist}
 use Rattle.pcm_group.proofs.Members.{used-some}
 use Rattle.pcm_desk.specs.declared.device.Held.{Held}
 use Rattle.pcm_desk.specs.Device.{DeviceSeen}
-use Rattle.pcm_desk.specs.Channels.{Channel, Mapped, Playing, Recording, channel_begun, may_be_held, own_turn, starting}
+use Rattle.pcm_desk.specs.Channels.{Channel, channel_begun, may_be_held, own_turn, starting}
 use Rattle.pcm_desk.specs.Desk.{Desk, DeskTurn, after, channel_at, channel_turn, desk_here, group_of, group_started, grouping_at, held_by, least_free, open_at, open_turn, opened_at, refusing, start_on}
 use Rattle.pcm_desk.specs.Own.{GoesAlone, GoesByDescriptor, HoldApart, IsIsolated, StartsTogether, descriptor_of, held_after}
 use Rattle.pcm_desk.proofs.Channels.{at-other, at-put, channel_named, least-unheld, turn-way, way-at, way-begun}
@@ -24,28 +22,22 @@ use Rattle.pcm_desk.proofs.Slots.{map_at-passing, play_at-passing, record_at-cap
 use Rattle.pcm_desk.proofs.Turning.{by-opening}
 
 -- the number of a descriptor
-abbrev number_of : Option ℕ → ℕ
+abbrev pub number_of : Option ℕ → ℕ
 number_of None = 0
 number_of (Some fd) = fd
 
 pub named-fd : (at fd : ℕ) → Some at ≡ Some fd → at ≡ fd
-named-fd at fd e = ap number_of e
+named-fd at fd e = cc
 
 -- ---- an event of a descriptor
 
 -- a descriptor that holds something is there
 descriptor_there : (desk : Desk) (fd : ℕ) (held : Held) → held_by desk fd ≡ Some held → fd < length desk.descriptors
-descriptor_there desk fd held e =
-    elim (cases_lt fd (length desk.descriptors)) [
-      | inl here ↦ here
-      | inr past ↦ absurd (let none : None ≡ Some held = sym (get_or_past desk.descriptors fd None past) ∙ e in cc)
-    ]
+descriptor_there desk fd held e = let here = cases_lt fd (length desk.descriptors) in grind (arith, get_or_past)
 
 -- an event of its own leaves an open descriptor its channel, but for a close
 holds_until : (device : DeviceSeen) (event : Event) (desk : Desk) (fd : ℕ) (held : Held) → descriptor_of event ≡ Some fd → held_by desk fd ≡ Some held → held_by (channel_turn device desk event (Some held)).desk fd ≡ held_after event held
-holds_until device (Close at) desk fd held n e =
-    subst (λ (k : ℕ). get_or (set desk.descriptors k None) fd None ≡ None) (sym (named-fd at fd n)) (get_or-set_same desk.descriptors fd None None (descriptor_there desk fd held e))
-holds_until device _ desk fd held n e = e
+holds_until device event desk fd held n e = let there = descriptor_there desk fd held e in grind (arith, get_or-set_same)
 
 -- of a descriptor that is open: its channel has its turn
 alone : (device : DeviceSeen) (event : Event) (desk : Desk) (fd : ℕ) (held : Held) → HoldApart desk → descriptor_of event ≡ Some fd → held_by desk fd ≡ Some held
@@ -69,8 +61,7 @@ exists device desk fd way settings held e = record { own = refl; answer = refl; 
 
 -- any event of another descriptor leaves what this one holds
 keeps : (device : DeviceSeen) (event : Event) (desk : Desk) (fd other : ℕ) (held : Held) → descriptor_of event ≡ Some fd → other ≢ fd → held_by (channel_turn device desk event (Some held)).desk other ≡ held_by desk other
-keeps device (Close at) desk fd other held n differ = get_or-set_other desk.descriptors at other None None (λ same. differ (same ∙ named-fd at fd n))
-keeps device _ desk fd other held n differ = refl
+keeps device event desk fd other held n differ = grind (arith, get_or-set_other)
 
 -- an event of a channel goes by its descriptor
 turned : (device : DeviceSeen) (event : Event) (desk : Desk) (fd : ℕ) (found : Option Held) → HoldApart desk → descriptor_of event ≡ Some fd → held_by desk fd ≡ found
@@ -88,18 +79,14 @@ turned device event desk fd (Some held) h n e = record {
   strangers = λ other theirs differ m. (alone device event desk fd held h n e).others theirs (λ same. differ (h.apart other fd theirs held m e same));
 }
   where
-    held_or : Option Held → Held
-    held_or None = held
-    held_or (Some h) = h
-
     same : (mine : Held) → held_by desk fd ≡ Some mine → held ≡ mine
-    same mine is = ap held_or (sym e ∙ is)
+    same mine is = cc
 
 -- ---- an open
 
 -- it holds the slot that an open took
 taken_there : (desk : Desk) (fd : ℕ) (mine other : Held) → fd < length desk.descriptors → get_or (set desk.descriptors fd (Some mine)) fd None ≢ Some other → other ≢ mine
-taken_there desk fd mine other there differ same = differ (get_or-set_same desk.descriptors fd (Some mine) None there ∙ ap (λ (h : Held). Some h) (sym same))
+taken_there desk fd mine other there differ = grind (arith, get_or-set_same)
 
 -- no descriptor holds a slot that an open takes
 untaken : (device : DeviceSeen) (desk : Desk) (other : ℕ) (theirs held : Held) → HoldApart desk → may_be_held (channel_at device desk held) ≡ false → held_by desk other ≡ Some theirs → theirs ≢ held
@@ -141,44 +128,26 @@ opens device desk fd way settings h =
 -- an event of a descriptor
 pub by-descriptor : (device : DeviceSeen) (event : Event) (desk : Desk) (fd : ℕ) → HoldApart desk → descriptor_of event ≡ Some fd → GoesByDescriptor device event desk (after device desk event).desk (after device desk event).reply fd
 by-descriptor device (Open at way settings) desk fd h n = subst (λ (k : ℕ). GoesByDescriptor device (Open at way settings) desk (open_turn desk at way settings).desk (open_turn desk at way settings).reply k) (named-fd at fd n) (opens device desk at way settings h)
-by-descriptor device (Write at source from count) desk fd h n = turned device (Write at source from count) desk fd (held_by desk at) h n (ap (held_by desk) (sym (named-fd at fd n)))
-by-descriptor device (Poke at offset from count) desk fd h n = turned device (Poke at offset from count) desk fd (held_by desk at) h n (ap (held_by desk) (sym (named-fd at fd n)))
-by-descriptor device (Read at count) desk fd h n = turned device (Read at count) desk fd (held_by desk at) h n (ap (held_by desk) (sym (named-fd at fd n)))
-by-descriptor device (Ioctl at request) desk fd h n = turned device (Ioctl at request) desk fd (held_by desk at) h n (ap (held_by desk) (sym (named-fd at fd n)))
-by-descriptor device (Join at group) desk fd h n = turned device (Join at group) desk fd (held_by desk at) h n (ap (held_by desk) (sym (named-fd at fd n)))
 by-descriptor device (StartGroup at group) desk fd h n = cc
-by-descriptor device (Close at) desk fd h n = turned device (Close at) desk fd (held_by desk at) h n (ap (held_by desk) (sym (named-fd at fd n)))
 by-descriptor device (Mixer request) desk fd h n = cc
 by-descriptor device (Intr frames) desk fd h n = cc
+by-descriptor device event desk fd h n = let at = number_of (descriptor_of event) in turned device event desk fd (held_by desk at) h n (ap (λ (k : Option ℕ). held_by desk (number_of k)) (sym n))
 
 -- an interrupt goes by each book alone
-passed : (device : DeviceSeen) (desk : Desk) (frames : ℕ) (way : Way) (slot : ℕ) → channel_at device (after device desk (Intr frames)).desk (channel_named way slot) ≡ (own_turn device desk.handed (grouping_at device desk (channel_named way slot)) (Intr frames) (channel_at device desk (channel_named way slot))).book
-passed device desk frames Play slot = ap Playing (play_at-passing device desk frames slot)
-passed device desk frames Record slot = ap Recording (record_at-capturing device desk frames slot)
-passed device desk frames Map slot = ap Mapped (map_at-passing device desk frames slot)
-
 pub channel-passed : (device : DeviceSeen) (desk : Desk) (frames : ℕ) (held : Held) → channel_at device (after device desk (Intr frames)).desk held ≡ (own_turn device desk.handed (grouping_at device desk held) (Intr frames) (channel_at device desk held)).book
-channel-passed device desk frames held = passed device desk frames held.way held.slot
-
--- what the mixer device is asked leaves each
-remixed : (device : DeviceSeen) (desk : Desk) (request : MixRequest) (way : Way) (slot : ℕ) → channel_at device (after device desk (Mixer request)).desk (channel_named way slot) ≡ channel_at device desk (channel_named way slot)
-remixed device desk request Play slot = refl
-remixed device desk request Record slot = refl
-remixed device desk request Map slot = refl
+channel-passed device desk frames held = grind (arith, play_at-passing, record_at-capturing, map_at-passing)
 
 -- ---- a start of a group
 
 -- a member starts
 member_starts : (device : DeviceSeen) (desk : Desk) (group : ℕ) (held : Held) → 0 < group → group_of desk held ≡ group
     → channel_at device (group_started device desk group) held ≡ starting device (desk_here device desk) (channel_at device desk held)
-member_starts device desk group held some is =
-    started-at device device desk group held some ∙ ap (λ (b : Bool). cond b (starting device (desk_here device desk) (channel_at device desk held)) (channel_at device desk held)) (is-this (group_of desk held) group is)
+member_starts device desk group held some is = let b = is-this (group_of desk held) group is in started-at device device desk group held some ∙ grind arith
 
 -- and no other channel changes
 pub other-waits : (device : DeviceSeen) (desk : Desk) (group : ℕ) (held : Held) → 0 < group → (group_of desk held ≢ group)
     → channel_at device (group_started device desk group) held ≡ channel_at device desk held
-other-waits device desk group held some differ =
-    started-at device device desk group held some ∙ ap (λ (b : Bool). cond b (starting device (desk_here device desk) (channel_at device desk held)) (channel_at device desk held)) (is-other (group_of desk held) group differ)
+other-waits device desk group held some differ = let b = is-other (group_of desk held) group differ in started-at device device desk group held some ∙ grind arith
 
 starts_together : (device : DeviceSeen) (held : Option Held) (desk : Desk) (group : ℕ) → let turn : DeskTurn = start_on device held desk group in StartsTogether device group desk turn.desk turn.reply
 starts_together device held desk group =
@@ -194,37 +163,22 @@ starts_together device held desk group =
 
 -- every event leaves the books of a desk to themselves
 pub isolated : (device : DeviceSeen) (event : Event) (desk : Desk) → HoldApart desk → IsIsolated device event desk (after device desk event).desk (after device desk event).reply
-isolated device (Open fd way settings) desk hold = by-descriptor device (Open fd way settings) desk fd hold refl
-isolated device (Write fd source at count) desk hold = by-descriptor device (Write fd source at count) desk fd hold refl
-isolated device (Poke fd offset at count) desk hold = by-descriptor device (Poke fd offset at count) desk fd hold refl
-isolated device (Read fd count) desk hold = by-descriptor device (Read fd count) desk fd hold refl
-isolated device (Ioctl fd request) desk hold = by-descriptor device (Ioctl fd request) desk fd hold refl
-isolated device (Join fd group) desk hold = by-descriptor device (Join fd group) desk fd hold refl
 isolated device (StartGroup fd group) desk hold = starts_together device (held_by desk fd) desk group
-isolated device (Close fd) desk hold = by-descriptor device (Close fd) desk fd hold refl
-isolated device (Mixer request) desk hold = record { each = λ held. remixed device desk request held.way held.slot; passes = λ fd. refl; groups = refl }
-isolated device (Intr n) desk hold = record { each = λ held. passed device desk n held.way held.slot; passes = λ fd. refl; groups = refl }
+isolated device (Mixer request) desk hold = record { each = λ held. grind arith; passes = λ fd. refl; groups = refl }
+isolated device (Intr n) desk hold = record { each = channel-passed device desk n; passes = λ fd. refl; groups = refl }
+isolated device event desk hold = by-descriptor device event desk (number_of (descriptor_of event)) hold refl
 
 -- ---- an opening
 
 -- the channel that an opened descriptor holds is the one that it was given
 pub opened-is : (descriptors : List (Option Held)) (fd : ℕ) (mine held : Held) → get_or descriptors fd None ≡ None → get_or (set descriptors fd (Some mine)) fd None ≡ Some held → held ≡ mine
-opened-is descriptors fd mine held shut reads =
-    elim (cases_lt fd (length descriptors)) [
-      | inl here ↦ ap (λ (h : Option Held). held_or h) (sym reads ∙ get_or-set_same descriptors fd (Some mine) None here)
-      | inr past ↦ absurd (let none : None ≡ Some held = sym shut ∙ ap (λ (l : List (Option Held)). get_or l fd None) (sym (set_past descriptors fd (Some mine) past)) ∙ reads in cc)
-    ]
-  where
-    held_or : Option Held → Held
-    held_or None = mine
-    held_or (Some h) = h
+opened-is descriptors fd mine held shut reads = let here = cases_lt fd (length descriptors) in grind (arith, get_or-set_same, set_past)
 
 pub opened-begins : (device : DeviceSeen) (desk : Desk) (fd : ℕ) (way : Way) (settings : Settings) (held : Held) → held_by desk fd ≡ None → held_by (open_turn desk fd way settings).desk fd ≡ Some held
     → channel_at device (open_turn desk fd way settings).desk held ≡ channel_begun way settings
 opened-begins device desk fd way settings held shut =
     by-opening (λ (t : DeskTurn). held_by t.desk fd ≡ Some held → channel_at device t.desk held ≡ channel_begun way settings) desk fd way settings
-    (λ mine e holds. absurd (let none : None ≡ Some held = sym shut ∙ holds in cc))
-    (λ _ holds. absurd (let none : None ≡ Some held = sym shut ∙ holds in cc))
+    (λ mine e. grind arith) (λ _. grind arith)
     (λ slot _ found holds. (let mine : Held = channel_named way slot in
     ap (channel_at device (opened_at desk fd mine settings)) (opened-is desk.descriptors fd mine held shut holds)
     ∙ at-put device desk mine (channel_begun way settings) (way-begun way settings) (least-unheld device desk way slot found).there))

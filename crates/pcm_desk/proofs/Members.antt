@@ -1,6 +1,6 @@
 -- The members of a group wait for its start, whatever events come; and what opens is a member of none.
-use Rattle.std.proofs.Common.{◌≡◌, ℕ, zero, suc, ◌+◌, ◌<◌, Bool, true, false, cond, List, [], ◌∷◌, length, get_or, replicate, Option, Some, None, inl, inr, Result, Ok, Err, refl, sym, ap, ◌∙◌, subst, arith}
-use Rattle.std.specs.Prelude.{◌≢◌, ◌&&◌, eqb, min, nat_le, nat_lt, not}
+use Rattle.std.proofs.Common.{◌≡◌, ℕ, ◌+◌, ◌<◌, Bool, true, false, cond, List, [], ◌∷◌, get_or, replicate, Option, Some, None, inl, inr, Result, Ok, Err, refl, sym, ap, ◌∙◌, subst, arith}
+use Rattle.std.specs.Prelude.{◌≢◌, eqb, nat_lt}
 use Rattle.std.proofs.lemmas.Bool.{cases_lt}
 use Rattle.std.proofs.lemmas.Bool.Decides.{nat_tests}
 use Rattle.std.proofs.lemmas.List.{get_or_past, get_or-replicate, length-replicate}
@@ -8,106 +8,37 @@ use Rattle.pcm_format.specs.declared.settings.Settings.{Settings}
 use Rattle.pcm_oss.specs.declared.event.Event.{Event}
 use Rattle.pcm_oss.specs.declared.event.Event.TheVariants.{Open, Write, Poke, Read, Ioctl, Join, StartGroup, Close, Mixer, Intr}
 use Rattle.pcm_oss.specs.declared.event.Way.{Way}
-use Rattle.pcm_oss.specs.declared.event.Way.TheVariants.{Play, Record, Map}
 use Rattle.pcm_oss.specs.declared.event.TheConstants.{SLOTS}
 use Rattle.pcm_oss.specs.declared.reply.Errno.{Errno}
-use Rattle.pcm_oss.specs.declared.reply.Errno.TheVariants.{Again, Busy, Inval}
-use Rattle.pcm_oss.specs.declared.reply.Answer.TheVariants.{Got, Number}
 use Rattle.pcm_oss.specs.declared.request.Request.{Request}
-use Rattle.pcm_oss.specs.declared.request.Request.TheVariants.{GetOSpace, GetISpace, GetOPtr, GetIPtr, GetODelay, GetError, SetTrigger, SetPlayVol, GetPlayVol, Post, Sync, Halt}
-use Rattle.pcm_oss.specs.Volumes.{is_volume}
-use Rattle.pcm_rate.specs.declared.rate.Rate.{Rate}
+use Rattle.pcm_oss.specs.declared.request.Request.TheVariants.{SetTrigger, Sync}
 use Rattle.pcm_group.specs.declared.sync_groups.Groups.{Groups}
 use Rattle.pcm_group.specs.Groups.{group_at, groups_joined, joining, no_groups}
 use Rattle.pcm_group.proofs.Members.{group-dissolved, group-left, group-other, used-some}
 use Rattle.pcm_desk.specs.declared.here.Here.{Here}
 use Rattle.pcm_desk.specs.declared.device.Held.{Held}
-use Rattle.pcm_desk.specs.declared.opening.Opening.{Opening}
 use Rattle.pcm_desk.specs.declared.play_book.PlayBook.{PlayBook}
-use Rattle.pcm_desk.specs.declared.play_book.PlayState.{PlayState}
-use Rattle.pcm_desk.specs.declared.play_book.PlayState.TheVariants.{Free, Setup, Primed, Running, Draining}
-use Rattle.pcm_desk.specs.declared.record_book.RecordBook.{RecordBook}
-use Rattle.pcm_desk.specs.declared.run_state.RunState.{RunState}
-use Rattle.pcm_desk.specs.declared.run_state.RunState.TheVariants as run_states
-use Rattle.pcm_desk.specs.declared.turn.Turn.{Turn}
-use Rattle.pcm_desk.specs.declared.play_requests.TheConstants.{PLAY_BIT}
-use Rattle.pcm_desk.specs.declared.record_requests.TheConstants.{RECORD_BIT}
-use Rattle.pcm_desk.specs.Device.{DeviceSeen, here_at, mix_settings, mixed_for, passed_for}
-use Rattle.pcm_desk.specs.Openings as openings
-use Rattle.pcm_desk.specs.PlayBooks.{accepting, is_play_setup, may_start, play_fill_of, play_free_of, play_settled_in, primed_in, refilled_in, started_at, started_in, takes_none, write_turn}
-use Rattle.pcm_desk.specs.PlayRequests.{play_ask, play_roused_in}
-use Rattle.pcm_desk.specs.RunStates.{is_unheld, is_in_setup}
-use Rattle.pcm_desk.specs.RecordBooks.{captured_in, record_fill_of}
-use Rattle.pcm_desk.specs.RecordRequests.{record_ask, record_roused_in}
-use Rattle.pcm_desk.specs.Channels.{Channel, Grouping, Mapped, Playing, Recording, capturing, channel_begun, is_held, join_result, may_be_held, member_refusal, mixed_by, mixing, own_ioctl, own_join, own_poke, own_request, own_turn, own_write, passing, play_passing, play_rate_at, record_rate_at, rests, way_of}
+use Rattle.pcm_desk.specs.Device.{DeviceSeen, here_at, mixed_for}
+use Rattle.pcm_desk.specs.Channels.{Channel, Grouping, Playing, channel_begun, join_result, may_be_held, member_refusal, mixed_by, mixing, own_ioctl, own_join, own_poke, own_read, own_request, own_turn, own_write, passing, rests, settling, way_of}
 use Rattle.pcm_desk.specs.Desk.{Desk, DeskTurn, after, channel_at, desk_at_start, group_of, group_started, grouping_at, groups_after, held_by, is_member, least_free, leaving, left_by, open_turn, opened_at}
 use Rattle.pcm_desk.specs.Own.{GoesByDescriptor, GoesByEach, HoldApart, MembersWait, Waits, descriptor_of, is_waiting}
 use Rattle.pcm_desk.specs.Events.{after_all}
 use Rattle.pcm_desk.proofs.Apart.{apart-after, apart-start}
 use Rattle.pcm_desk.proofs.Grouping.{by-starting}
 use Rattle.pcm_desk.proofs.Channels.{at-other, channel_named, least-unheld, same-channel, way-at, way-begun}
-use Rattle.pcm_desk.proofs.Isolation.{by-descriptor, isolated, named-fd, opened-is, other-waits}
-use Rattle.pcm_desk.proofs.Openings.{Does, Setting, Staying, opening-ask-does}
+use Rattle.pcm_desk.proofs.Isolation.{by-descriptor, isolated, number_of, opened-is, other-waits}
 use Rattle.pcm_desk.proofs.Turning.{by-opening}
 
--- ---- what holds of a member's book
+-- ---- an event of its own
 
--- it hasn't started, and its trigger is off
-abbrev PlayWaits : PlayBook → Type 0
-PlayWaits book = (is_waiting book.state ≡ true) × (book.opening.trigger ≡ false)
+wrote_waits : (here : Here) (count : ℕ) (channel : Channel) → Waits channel → Waits (own_write here count channel).book
+wrote_waits here count channel w = grind arith
 
-abbrev RecordWaits : RecordBook → Type 0
-RecordWaits book = (is_in_setup book.state ≡ true) × (book.opening.trigger ≡ false)
+poked_waits : (offset count : ℕ) (channel : Channel) → Waits channel → Waits (own_poke offset count channel).book
+poked_waits offset count channel w = grind arith
 
-either : {X : Type 0} (P : X → Type 0) (b : Bool) (x y : X) → P x → P y → P (cond b x y)
-either P true x y px py = px
-either P false x y px py = py
-
--- what isn't so chooses the second
-unless : {X : Type 0} (P : X → Type 0) (b : Bool) (x y : X) → b ≡ false → P y → P (cond b x y)
-unless P true x y e py = cc
-unless P false x y e py = py
-
-trigger_kept : (setup : Bool) (old new : Opening) → Does setup old new → new.trigger ≡ old.trigger
-trigger_kept setup old new (Staying same) = ap (λ (o : Opening). o.trigger) same
-trigger_kept setup old new (Setting is sets) = sets.trigger
-
--- ---- a write
-
-primed_waits : (state : PlayState) (book : PlayBook) → book.state ≡ state → is_waiting state ≡ true → book.opening.trigger ≡ false → PlayWaits (primed_in state book)
-primed_waits Setup book e w t = either PlayWaits (nat_lt 0 book.written) (record book { state = Primed }) book (refl, t) (ap is_waiting e, t)
-primed_waits Primed book e w t = (ap is_waiting e, t)
-primed_waits Free book e w t = cc
-primed_waits Running book e w t = cc
-primed_waits (Draining closed) book e w t = cc
-
-started_waits : (mixed : ℕ) (state : PlayState) (book : PlayBook) → book.state ≡ state → is_waiting state ≡ true → book.opening.trigger ≡ false → PlayWaits (started_in mixed state book)
-started_waits mixed Setup book e w t = (ap is_waiting e, t)
-started_waits mixed Primed book e w t = unless PlayWaits (may_start book) (started_at mixed Running book) book (off book.opening.trigger (nat_le (openings.fragment_bytes book.opening) (play_fill_of book)) t) (ap is_waiting e, t)
-  where
-    off : (b other : Bool) → b ≡ false → (b && other) ≡ false
-    off true other f = cc
-    off false other f = refl
-started_waits mixed Free book e w t = cc
-started_waits mixed Running book e w t = cc
-started_waits mixed (Draining closed) book e w t = cc
-
-accepting_waits : (mixed accepted : ℕ) (book : PlayBook) → PlayWaits book → PlayWaits (accepting mixed accepted book)
-accepting_waits mixed accepted book w =
-    let more : PlayBook = record book { written = book.written + accepted } in
-    let primed : PlayBook = primed_in more.state more in
-    let waits : PlayWaits primed = primed_waits more.state more refl w.0 w.1 in
-    started_waits mixed primed.state primed refl waits.0 waits.1
-
-write_waits : (here : Here) (length : ℕ) (book : PlayBook) → PlayWaits book → PlayWaits (write_turn here length book).book
-write_waits here length book w =
-    let accepted : ℕ = min length (play_free_of book) in
-    let taken : Turn PlayBook = record { book = accepting here.mixed accepted book; reply = Ok (Number accepted) } in
-    let Done_so : Turn PlayBook → Type 0 = λ turn. PlayWaits turn.book in
-    either Done_so (takes_none book.state) (record { book = book; reply = Err Busy }) (cond (nat_lt 0 length && eqb (play_free_of book) 0) (record { book = book; reply = Err Again }) taken) w
-    (either Done_so (nat_lt 0 length && eqb (play_free_of book) 0) (record { book = book; reply = Err Again }) taken w (accepting_waits here.mixed accepted book w))
-
--- ---- requests
+read_waits : (count : ℕ) (channel : Channel) → Waits channel → Waits (own_read count channel).book
+read_waits count channel w = grind arith
 
 -- a request that leaves a member waiting: any but those that groups have a part in
 abbrev Leaves : Request → Type 0
@@ -115,114 +46,25 @@ Leaves (SetTrigger bits) = ⊥
 Leaves Sync = ⊥
 Leaves _ = Unit {0}
 
-opened_waits : (setup : Bool) (bit : ℕ) (request : Request) (book : PlayBook) → PlayWaits book → PlayWaits (record book { opening = (openings.ask setup bit request book.opening).book })
-opened_waits setup bit request book w = (w.0, trigger_kept setup book.opening (openings.ask setup bit request book.opening).book (opening-ask-does setup bit request book.opening) ∙ w.1)
-
-ask_waits : (rate : Rate) (mix_rate : ℕ) (here : Here) (request : Request) (book : PlayBook) → Leaves request → PlayWaits book → PlayWaits (play_ask rate mix_rate here request book).book
-ask_waits rate mix_rate here GetOSpace book l w = w
-ask_waits rate mix_rate here GetOPtr book l w = w
-ask_waits rate mix_rate here GetODelay book l w = w
-ask_waits rate mix_rate here GetError book l w = w
-ask_waits rate mix_rate here (SetTrigger bits) book l w = absurd l
-ask_waits rate mix_rate here (SetPlayVol volume) book l w = volumed (is_volume volume)
-  where
-    volumed : (b : Bool) → PlayWaits (cond {A = Turn PlayBook} b (record { book = record book { volume = volume }; reply = Ok (Number volume) }) (record { book = book; reply = Err Inval })).book
-    volumed true = w
-    volumed false = w
-ask_waits rate mix_rate here GetPlayVol book l w = w
-ask_waits rate mix_rate here Post book l w = unless PlayWaits book.opening.trigger (play_roused_in here.mixed book.state book) book w.1 w
-ask_waits rate mix_rate here Sync book l w = absurd l
-ask_waits rate mix_rate here Halt book l w = (refl, w.1)
-ask_waits rate mix_rate here request book l w = opened_waits (is_play_setup book.state) PLAY_BIT request book w
-
-record_opened_waits : (setup : Bool) (bit : ℕ) (request : Request) (book : RecordBook) → RecordWaits book → RecordWaits (record book { opening = (openings.ask setup bit request book.opening).book })
-record_opened_waits setup bit request book w = (w.0, trigger_kept setup book.opening (openings.ask setup bit request book.opening).book (opening-ask-does setup bit request book.opening) ∙ w.1)
-
-record_ask_waits : (request : Request) (book : RecordBook) → Leaves request → RecordWaits book → RecordWaits (record_ask request book).book
-record_ask_waits GetISpace book l w = w
-record_ask_waits GetIPtr book l w = w
-record_ask_waits GetError book l w = w
-record_ask_waits (SetTrigger bits) book l w = absurd l
-record_ask_waits Post book l w = unless RecordWaits book.opening.trigger (record_roused_in book.state book) book w.1 w
-record_ask_waits Sync book l w = absurd l
-record_ask_waits Halt book l w = (refl, w.1)
-record_ask_waits request book l w = record_opened_waits (is_in_setup book.state) RECORD_BIT request book w
-
--- a trigger that is set off before a run
-off_waits : (rate : Rate) (mix_rate : ℕ) (here : Here) (state : PlayState) (book : PlayBook) → book.state ≡ state → is_play_setup state ≡ true → PlayWaits (play_ask rate mix_rate here (SetTrigger 0) book).book
-off_waits rate mix_rate here Setup book e s = rw e (refl, refl)
-off_waits rate mix_rate here Free book e s = cc
-off_waits rate mix_rate here Primed book e s = cc
-off_waits rate mix_rate here Running book e s = cc
-off_waits rate mix_rate here (Draining closed) book e s = cc
-
-record_off_waits : (state : RunState) (book : RecordBook) → book.state ≡ state → is_in_setup state ≡ true → RecordWaits (record_ask (SetTrigger 0) book).book
-record_off_waits run_states.Setup book e s = rw e (refl, refl)
-record_off_waits run_states.Free book e s = cc
-record_off_waits run_states.Running book e s = cc
-
--- ---- an interrupt
-
-mixing_waits : (device : DeviceSeen) (mixed frames : ℕ) (state : PlayState) (book : PlayBook) → book.state ≡ state → is_waiting state ≡ true → mixing device mixed frames book ≡ book
-mixing_waits device mixed zero state book e w = refl
-mixing_waits device mixed (suc frames) Setup book e w = ap (λ (s : PlayState). refilled_in (play_rate_at device book) mixed s (suc frames) book) e
-mixing_waits device mixed (suc frames) Primed book e w = ap (λ (s : PlayState). refilled_in (play_rate_at device book) mixed s (suc frames) book) e
-mixing_waits device mixed (suc frames) Free book e w = cc
-mixing_waits device mixed (suc frames) Running book e w = cc
-mixing_waits device mixed (suc frames) (Draining closed) book e w = cc
-
-settling_waits : (device : DeviceSeen) (handed : ℕ) (state : PlayState) (book : PlayBook) → book.state ≡ state → is_waiting state ≡ true → play_settled_in (play_rate_at device book) (passed_for device handed) book.state book ≡ book
-settling_waits device handed Setup book e w = ap (λ (s : PlayState). play_settled_in (play_rate_at device book) (passed_for device handed) s book) e
-settling_waits device handed Primed book e w = ap (λ (s : PlayState). play_settled_in (play_rate_at device book) (passed_for device handed) s book) e
-settling_waits device handed Free book e w = cc
-settling_waits device handed Running book e w = cc
-settling_waits device handed (Draining closed) book e w = cc
-
--- it passes a member by
-passing_waits : (device : DeviceSeen) (handed n : ℕ) (book : PlayBook) → PlayWaits book → play_passing device handed n book ≡ book
-passing_waits device handed n book w =
-    ap (λ (b : PlayBook). play_settled_in (play_rate_at device b) (passed_for device (handed + n)) b.state b) (mixing_waits device (mixed_for device handed) (mixed_by device handed n) book.state book refl w.0)
-    ∙ settling_waits device (handed + n) book.state book refl w.0
-
-capturing_waits : (device : DeviceSeen) (n : ℕ) (state : RunState) (book : RecordBook) → book.state ≡ state → is_in_setup state ≡ true → capturing device n book ≡ book
-capturing_waits device n run_states.Setup book e w = ap (λ (s : RunState). captured_in (record_rate_at device book) s n book) e
-capturing_waits device n run_states.Free book e w = cc
-capturing_waits device n run_states.Running book e w = cc
-
-passed_waits : (device : DeviceSeen) (handed n : ℕ) (channel : Channel) → Waits channel → Waits (passing device handed n channel)
-passed_waits device handed n (Playing book) w = subst PlayWaits (sym (passing_waits device handed n book w)) w
-passed_waits device handed n (Recording book) w = subst RecordWaits (sym (capturing_waits device n book.state book refl w.0)) w
-passed_waits device handed n (Mapped book) w = absurd w
-
--- ---- an event of its own
-
-wrote_waits : (here : Here) (count : ℕ) (channel : Channel) → Waits channel → Waits (own_write here count channel).book
-wrote_waits here count (Playing book) w = write_waits here count book w
-wrote_waits here count (Recording book) w = w
-wrote_waits here count (Mapped book) w = absurd w
-
-poked_waits : (offset count : ℕ) (channel : Channel) → Waits channel → Waits (own_poke offset count channel).book
-poked_waits offset count (Playing book) w = w
-poked_waits offset count (Recording book) w = w
-poked_waits offset count (Mapped book) w = absurd w
-
-read_waits : (handed count : ℕ) (device : DeviceSeen) (grouping : Grouping) (fd : ℕ) (channel : Channel) → Waits channel → Waits (own_turn device handed grouping (Read fd count) channel).book
-read_waits handed count device grouping fd (Playing book) w = w
-read_waits handed count device grouping fd (Recording book) w =
-    let got : ℕ = min count (record_fill_of book) in
-    either (λ (turn : Turn RecordBook). RecordWaits turn.book) (nat_lt 0 count && eqb (record_fill_of book) 0) (record { book = book; reply = Err Again }) (record { book = record book { read = book.read + got }; reply = Ok (Got got) }) w w
-read_waits handed count device grouping fd (Mapped book) w = absurd w
-
 asked_waits : (device : DeviceSeen) (here : Here) (request : Request) (channel : Channel) → Leaves request → Waits channel → Waits (own_ioctl device here request channel).book
-asked_waits device here request (Playing book) l w = ask_waits (play_rate_at device book) (mix_settings device).rate here request book l w
-asked_waits device here request (Recording book) l w = record_ask_waits request book l w
-asked_waits device here request (Mapped book) l w = absurd w
+asked_waits device here request channel l w = grind arith
 
 -- a join sets the trigger off; a mapped channel is a member of no group
 joined_waits : (device : DeviceSeen) (new : Desk) (here : Here) (slot number : ℕ) (channel : Channel) → rests channel ≡ true → is_member new (channel_named (way_of channel) slot) ≡ true → Waits (own_join device here (Ok number) channel).book
-joined_waits device new here slot number (Playing book) r m = off_waits (play_rate_at device book) (mix_settings device).rate here book.state book refl r
-joined_waits device new here slot number (Recording book) r m = record_off_waits book.state book refl r
-joined_waits device new here slot number (Mapped book) r m = absurd (let clash : false ≡ true = m in cc)
+joined_waits device new here slot number channel r m = grind arith
+
+-- an interrupt passes a member by
+mixing_waits : (device : DeviceSeen) (mixed frames : ℕ) (book : PlayBook) → is_waiting book.state ≡ true → mixing device mixed frames book ≡ book
+mixing_waits device mixed frames book w = grind arith
+
+settling_waits : (device : DeviceSeen) (handed : ℕ) (book : PlayBook) → is_waiting book.state ≡ true → settling device handed book ≡ book
+settling_waits device handed book w = grind arith
+
+passed_waits : (device : DeviceSeen) (handed n : ℕ) (channel : Channel) → Waits channel → Waits (passing device handed n channel)
+passed_waits device handed n (Playing book) w =
+    let same = mixing_waits device (mixed_for device handed) (mixed_by device handed n) book w.0 in
+    subst (λ (b : PlayBook). Waits (Playing (settling device (handed + n) b))) (sym same) (subst (λ (b : PlayBook). Waits (Playing b)) (sym (settling_waits device (handed + n) book w.0)) w)
+passed_waits device handed n channel w = grind arith
 
 -- what it leaves of a member, where that is a member still
 own_waits : (device : DeviceSeen) (event : Event) (held : Held) (desk new : Desk) → descriptor_of event ≢ None → new.groups ≡ groups_after event held (grouping_at device desk held) desk.groups → MembersWait device desk → is_member new held ≡ true
@@ -252,36 +94,17 @@ own_waits device event held desk new own is waits member = at event own is
     at (Open fd way settings) own same = old (sym same)
     at (Write fd source from count) own same = wrote_waits (here_at device desk.handed) count (channel_at device desk held) (old (sym same))
     at (Poke fd offset from count) own same = poked_waits offset count (channel_at device desk held) (old (sym same))
-    at (Read fd count) own same = read_waits desk.handed count device (grouping_at device desk held) fd (channel_at device desk held) (old (sym same))
+    at (Read fd count) own same = read_waits count (channel_at device desk held) (old (sym same))
     at (Ioctl fd request) own same = requested_by request (is_member desk held) refl same
     at (Join fd group) own same = joining_by (joining desk.groups held.way held.slot group) (rests (channel_at device desk held)) refl same
     at (Close fd) own same = absurd (gone same)
-    at (StartGroup fd group) own same = absurd (own refl)
-    at (Mixer request) own same = absurd (own refl)
-    at (Intr n) own same = absurd (own refl)
+    at _ own same = absurd (own refl)
 
 -- ---- the groups of others
 
 -- what an event of one descriptor's channel leaves of the group of another
 pub others-group : (event : Event) (mine held : Held) (grouping : Grouping) (old new : Desk) → held ≢ mine → new.groups ≡ groups_after event mine grouping old.groups → group_of new held ≡ group_of old held
-others-group event mine held grouping old new differ is = ap (λ (g : Groups). group_of (record new { groups = g }) held) is ∙ stays event
-  where
-    apart : held.way ≡ mine.way → held.slot ≡ mine.slot → ⊥
-    apart way slot = differ (λ i. record { way = way i; slot = slot i })
-
-    stays_joined : (result : Result ℕ Errno) → group_of (record new { groups = groups_joined old.groups mine.way mine.slot result }) held ≡ group_of old held
-    stays_joined (Err errno) = refl
-    stays_joined (Ok number) = group-other old.groups held.way mine.way held.slot mine.slot number apart
-
-    stays_asked : (request : Request) → group_of (record new { groups = left_by request mine old.groups }) held ≡ group_of old held
-    stays_asked Sync = group-other old.groups held.way mine.way held.slot mine.slot 0 apart
-    stays_asked _ = refl
-
-    stays : (event : Event) → group_of (record new { groups = groups_after event mine grouping old.groups }) held ≡ group_of old held
-    stays (Ioctl fd request) = stays_asked request
-    stays (Join fd group) = stays_joined (grouping.joins group)
-    stays (Close fd) = group-other old.groups held.way mine.way held.slot mine.slot 0 apart
-    stays _ = refl
+others-group event mine held grouping old new differ is = grind (arith, group-other)
 
 -- ---- each event
 
@@ -305,39 +128,17 @@ open_wait device event desk fd mine n e h waits held member =
 
 -- a channel that waits may be held, so what is free is no member
 waits_held : (channel : Channel) → Waits channel → may_be_held channel ≡ true
-waits_held (Playing book) w = at book.state w.0
-  where
-    at : (state : PlayState) → is_waiting state ≡ true → is_held state ≡ true
-    at Free e = cc
-    at Setup e = refl
-    at Primed e = refl
-    at Running e = cc
-    at (Draining closed) e = cc
-waits_held (Recording book) w = at book.state w.0
-  where
-    at : (state : RunState) → is_in_setup state ≡ true → not (is_unheld state) ≡ true
-    at run_states.Free e = cc
-    at run_states.Setup e = refl
-    at run_states.Running e = cc
-waits_held (Mapped book) w = absurd w
+waits_held channel w = grind arith
 
-free_alone : (device : DeviceSeen) (desk : Desk) (held : Held) → may_be_held (channel_at device desk held) ≡ false → MembersWait device desk → is_member desk held ≡ true → ⊥
-free_alone device desk held free waits member = let clash : false ≡ true = sym free ∙ waits_held (channel_at device desk held) (waits held member) in cc
-
-not_true : (b : Bool) → (b ≡ true → ⊥) → b ≡ false
-not_true true n = absurd (n refl)
-not_true false n = refl
+free_alone : (device : DeviceSeen) (desk : Desk) (held : Held) → may_be_held (channel_at device desk held) ≡ false → MembersWait device desk → is_member desk held ≡ false
+free_alone device desk held free waits = let waiting = waits held in grind (arith, waits_held)
 
 -- so an opening is a member of no group
 pub opened-alone : (device : DeviceSeen) (desk : Desk) (fd : ℕ) (way : Way) (settings : Settings) (held : Held) → MembersWait device desk → held_by desk fd ≡ None → held_by (open_turn desk fd way settings).desk fd ≡ Some held
     → is_member (open_turn desk fd way settings).desk held ≡ false
 opened-alone device desk fd way settings held waits shut =
-    by-opening (λ (t : DeskTurn). held_by t.desk fd ≡ Some held → is_member t.desk held ≡ false) desk fd way settings
-    (λ mine e holds. absurd (let none : None ≡ Some held = sym shut ∙ holds in cc))
-    (λ _ holds. absurd (let none : None ≡ Some held = sym shut ∙ holds in cc))
-    (λ slot _ found holds. (let mine : Held = channel_named way slot in
-    ap (is_member desk) (opened-is desk.descriptors fd mine held shut holds)
-    ∙ not_true (is_member desk mine) (free_alone device desk mine (least-unheld device desk way slot found).unheld waits)))
+    by-opening (λ (t : DeskTurn). held_by t.desk fd ≡ Some held → is_member t.desk held ≡ false) desk fd way settings (λ mine e. grind arith) (λ _. grind arith)
+    (λ slot _ found holds. rw (opened-is desk.descriptors fd (channel_named way slot) held shut holds) (free_alone device desk (channel_named way slot) (least-unheld device desk way slot found).unheld waits))
 
 -- an open
 opening_waits : (device : DeviceSeen) (desk : Desk) (fd : ℕ) (way : Way) (settings : Settings) → MembersWait device desk → MembersWait device (open_turn desk fd way settings).desk
@@ -345,25 +146,17 @@ opening_waits device desk fd way settings waits = by-opening (λ (t : DeskTurn).
   where
     takes : (slot : ℕ) → held_by desk fd ≡ None → least_free desk way ≡ Some slot → MembersWait device (opened_at desk fd (channel_named way slot) settings)
     takes slot shut found held member = elim (same-channel held (channel_named way slot)) [
-      | inl same ↦ absurd (free_alone device desk (channel_named way slot) (least-unheld device desk way slot found).unheld waits (ap (is_member desk) (sym same) ∙ member))
+      | inl same ↦ absurd (let none : true ≡ false = sym (ap (is_member desk) (sym same) ∙ member) ∙ free_alone device desk (channel_named way slot) (least-unheld device desk way slot found).unheld waits in cc)
       | inr differ ↦ stays_waiting device desk (opened_at desk fd (channel_named way slot) settings) held waits refl (at-other device desk (channel_named way slot) (channel_begun way settings) held (way-begun way settings) differ) member
     ]
 
 -- of a descriptor that is shut: all but an open is refused
-shut_waits : (device : DeviceSeen) (event : Event) (desk : Desk) (fd : ℕ) → descriptor_of event ≡ Some fd → held_by desk fd ≡ None → MembersWait device desk → MembersWait device (after device desk event).desk
-shut_waits device (Open at way settings) desk fd n e waits = opening_waits device desk at way settings waits
-shut_waits device (Write at source from count) desk fd n e waits = rw (ap (held_by desk) (named-fd at fd n) ∙ e) waits
-shut_waits device (Poke at offset from count) desk fd n e waits = rw (ap (held_by desk) (named-fd at fd n) ∙ e) waits
-shut_waits device (Read at count) desk fd n e waits = rw (ap (held_by desk) (named-fd at fd n) ∙ e) waits
-shut_waits device (Ioctl at request) desk fd n e waits = rw (ap (held_by desk) (named-fd at fd n) ∙ e) waits
-shut_waits device (Join at group) desk fd n e waits = rw (ap (held_by desk) (named-fd at fd n) ∙ e) waits
-shut_waits device (StartGroup at group) desk fd n e waits = cc
-shut_waits device (Close at) desk fd n e waits = rw (ap (held_by desk) (named-fd at fd n) ∙ e) waits
-shut_waits device (Mixer request) desk fd n e waits = cc
-shut_waits device (Intr frames) desk fd n e waits = cc
+shut_same : (device : DeviceSeen) (event : Event) (desk : Desk) (fd : ℕ) → descriptor_of event ≡ Some fd → held_by desk fd ≡ None → ((at : ℕ) (way : Way) (settings : Settings) → event ≡ Open at way settings → ⊥) → (after device desk event).desk ≡ desk
+shut_same device event desk fd n e other = grind arith
 
 own_event_waits : (device : DeviceSeen) (event : Event) (desk : Desk) (fd : ℕ) (held : Option Held) → descriptor_of event ≡ Some fd → held_by desk fd ≡ held → HoldApart desk → MembersWait device desk → MembersWait device (after device desk event).desk
-own_event_waits device event desk fd None n e h waits = shut_waits device event desk fd n e waits
+own_event_waits device (Open at way settings) desk fd None n e h waits = opening_waits device desk at way settings waits
+own_event_waits device event desk fd None n e h waits = subst (MembersWait device) (sym (shut_same device event desk fd n e (λ at way settings. (λ same. cc)))) waits
 own_event_waits device event desk fd (Some mine) n e h waits = open_wait device event desk fd mine n e h waits
 
 -- a start of a group
@@ -381,21 +174,15 @@ started_waits_on device desk group some waits held member = at (eqb (group_of de
 
 -- Each member of a group waits after every event.
 pub waits-after : (device : DeviceSeen) (desk : Desk) (event : Event) → HoldApart desk → MembersWait device desk → MembersWait device (after device desk event).desk
-waits-after device desk (Open fd way settings) h waits = own_event_waits device (Open fd way settings) desk fd (held_by desk fd) refl refl h waits
-waits-after device desk (Write fd source at count) h waits = own_event_waits device (Write fd source at count) desk fd (held_by desk fd) refl refl h waits
-waits-after device desk (Poke fd offset at count) h waits = own_event_waits device (Poke fd offset at count) desk fd (held_by desk fd) refl refl h waits
-waits-after device desk (Read fd count) h waits = own_event_waits device (Read fd count) desk fd (held_by desk fd) refl refl h waits
-waits-after device desk (Ioctl fd request) h waits = own_event_waits device (Ioctl fd request) desk fd (held_by desk fd) refl refl h waits
-waits-after device desk (Join fd group) h waits = own_event_waits device (Join fd group) desk fd (held_by desk fd) refl refl h waits
 waits-after device desk (StartGroup fd group) h waits =
     by-starting device (λ (t : DeskTurn). MembersWait device t.desk) (held_by desk fd) desk group (λ errno. waits) (λ used ready. started_waits_on device desk group (used-some desk.groups group used) waits)
-waits-after device desk (Close fd) h waits = own_event_waits device (Close fd) desk fd (held_by desk fd) refl refl h waits
 waits-after device desk (Mixer request) h waits = λ held member.
     let goes : GoesByEach device (Mixer request) desk (after device desk (Mixer request)).desk = isolated device (Mixer request) desk h in
     subst Waits (sym (goes.each held)) (waits held member)
 waits-after device desk (Intr n) h waits = λ held member.
     let goes : GoesByEach device (Intr n) desk (after device desk (Intr n)).desk = isolated device (Intr n) desk h in
     subst Waits (sym (goes.each held)) (passed_waits device desk.handed n (channel_at device desk held) (waits held member))
+waits-after device desk event h waits = let fd = number_of (descriptor_of event) in own_event_waits device event desk fd (held_by desk fd) refl refl h waits
 
 -- and after any events
 waits_all : (device : DeviceSeen) (desk : Desk) (events : List Event) → HoldApart desk → MembersWait device desk → MembersWait device (after_all device desk events)
@@ -406,15 +193,11 @@ waits_all device desk (event ∷ events) h waits = waits_all device (after devic
 none_at_start : (slot : ℕ) → let none : List ℕ = replicate SLOTS 0 in get_or none slot 0 ≡ 0
 none_at_start slot =
     let nothing : ℕ = 0 in
-    elim (cases_lt slot SLOTS) [
-      | inl here ↦ get_or-replicate SLOTS slot nothing nothing here
-      | inr past ↦ get_or_past (replicate SLOTS nothing) slot nothing (omega (arith, length-replicate SLOTS nothing))
-    ]
+    let here = cases_lt slot SLOTS in
+    grind (arith, get_or-replicate, get_or_past, length-replicate)
 
 alone_at_start : (way : Way) (slot : ℕ) → group_at no_groups way slot ≡ 0
-alone_at_start Play slot = none_at_start slot
-alone_at_start Record slot = none_at_start slot
-alone_at_start Map slot = refl
+alone_at_start way slot = grind (arith, none_at_start)
 
 -- nor at any desk without a group
 pub waits-none : (device : DeviceSeen) (desk : Desk) → desk.groups ≡ no_groups → MembersWait device desk

@@ -12,7 +12,6 @@ use Rattle.pcm_format.specs.Layouts.{channels_of, layout_of}
 use Rattle.pcm_oss.specs.declared.request.Request.{Request}
 use Rattle.pcm_oss.specs.declared.request.Request.TheVariants.{SetFmt, Speed, Channels, SetFragment}
 use Rattle.pcm_oss.specs.Fragments.{AreFragments}
-use Rattle.pcm_oss.specs.Replies.{bytes_due}
 use Rattle.pcm_oss.proofs.Limits.{asked-fragments}
 use Rattle.pcm_feeder.specs.Limits.{IsRate}
 use Rattle.pcm_desk.specs.declared.opening.Opening.{Opening}
@@ -79,24 +78,3 @@ opening-ask-does setup bit (Channels channels) opening =
     reset (eqb channels 0) setup (λ settings. channels_of settings.layout) (option_map (at_layout opening.settings) (layout_of channels)) opening (layout_taken opening.settings (layout_of channels))
 opening-ask-does setup bit (SetFragment arg) opening = cut setup arg opening
 opening-ask-does setup bit _ opening = Staying refl
-
--- ---- the replies
-
-reset_silent : (asks setup : Bool) (number : Settings → ℕ) (found : Option Settings) (opening : Opening) → bytes_due (telling_of number opening (cond asks (Ok opening) (reset_to setup found opening))).reply ≡ 0
-reset_silent true setup number found opening = refl
-reset_silent false setup number None opening = refl
-reset_silent false true number (Some settings) opening = refl
-reset_silent false false number (Some settings) opening = refl
-
-cut_silent : (setup : Bool) (arg : ℕ) (opening : Opening) → bytes_due (set_fragments setup arg opening).reply ≡ 0
-cut_silent true arg opening = refl
-cut_silent false arg opening = refl
-
--- no bytes come with any
-pub opening-ask-silent : (setup : Bool) (bit : ℕ) (request : Request) (opening : Opening) → bytes_due (ask setup bit request opening).reply ≡ 0
-opening-ask-silent setup bit (SetFmt code) opening = reset_silent (eqb code 0) setup (λ settings. code_of settings.format) (option_map (at_format opening.settings) (format_with_code code)) opening
-opening-ask-silent setup bit (Speed rate) opening = reset_silent (eqb rate 0) setup (λ settings. settings.rate) (at_rate opening.settings rate) opening
-opening-ask-silent setup bit (Channels channels) opening =
-    reset_silent (eqb channels 0) setup (λ settings. channels_of settings.layout) (option_map (at_layout opening.settings) (layout_of channels)) opening
-opening-ask-silent setup bit (SetFragment arg) opening = cut_silent setup arg opening
-opening-ask-silent setup bit _ opening = refl
