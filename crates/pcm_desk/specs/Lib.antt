@@ -7,6 +7,7 @@ pub mod PlayBooks
 pub mod PlayRequests
 pub mod PlaySafe
 pub mod RunStates
+pub mod RunRequests
 pub mod RecordBooks
 pub mod RecordRequests
 pub mod RecordSafe

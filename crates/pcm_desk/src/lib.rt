@@ -16,6 +16,7 @@ mod play_requests;
 mod record_book;
 mod record_events;
 mod record_requests;
+mod run_requests;
 mod run_state;
 mod turn;
 

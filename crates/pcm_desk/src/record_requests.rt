@@ -4,10 +4,11 @@ ghost use Rattle.std.specs.Prelude.{◌≡◌, ◌≤◌};
 ghost use Rattle.pcm_oss.specs.Fragments.{AreFragments};
 ghost use Rattle.pcm_desk.specs.Openings.{ring_bytes};
 ghost use Rattle.pcm_desk.specs.RecordBooks.{record_fill_of};
-ghost use Rattle.pcm_desk.specs.RecordRequests.{record_ask, record_posted, record_roused_in, record_set_trigger, record_stopped_in, record_tell_errors, record_triggered, record_with_opening};
+ghost use Rattle.pcm_desk.specs.RecordRequests.{record_ask, record_run, record_tell_errors};
 
-use crate::{Opening, RecordBook, RunState, Turn};
-use pcm_oss::{Answer, Errno, Request};
+use crate::run_requests::{RunAsked, RunChange};
+use crate::{RecordBook, RunState, Turn};
+use pcm_oss::{Answer, Request};
 
 /// The bit of a trigger that a channel which records has (`PCM_ENABLE_INPUT`).
 pub const RECORD_BIT: u32 = 1;
@@ -22,24 +23,30 @@ impl RecordBook {
     {
         match request {
             Request::GetISpace => Turn::telling(self, self.opening.space(self.fill() as u32)),
-            Request::GetIPtr => self.with_opening(self.opening.tell_pointer(self.kept)),
+            Request::GetIPtr => self.with_run(RunAsked::staying(
+                self.opening.tell_pointer(self.kept),
+            )),
             Request::GetError => self.tell_errors(),
-            Request::SetTrigger(bits) => self.set_trigger(bits),
-            Request::Post => Turn::telling(self.posted(), Answer::Done),
-            Request::Sync => Turn::telling(self, Answer::Done),
-            Request::Halt => Turn::telling(self.dropped(), Answer::Done),
-            _ => self.with_opening(self.opening.asked(self.is_setup(), RECORD_BIT, request)),
+            _ => self.with_run(self.state.asked(RECORD_BIT, request, self.opening)),
         }
     }
 
-    // What was done to the book's opening is done to the book.
-    fn with_opening(self, turn: Turn<Opening>) -> Turn<RecordBook>
-        ensures { result ≡ record_with_opening self turn }
+    // What a request made of the book's run and of its opening is done to the book.
+    fn with_run(self, turn: Turn<RunAsked>) -> Turn<RecordBook>
+        ensures { result ≡ record_run self turn }
     {
+        let book = RecordBook {
+            opening: turn.book.opening,
+            ..self
+        };
         Turn {
-            book: RecordBook {
-                opening: turn.book,
-                ..self
+            book: match turn.book.change {
+                RunChange::Stays => book,
+                RunChange::Starts => RecordBook {
+                    state: RunState::Running,
+                    ..book
+                },
+                RunChange::Drops => book.dropped(),
             },
             reply: turn.reply,
         }
@@ -59,62 +66,5 @@ impl RecordBook {
             },
             errors,
         )
-    }
-
-    // A book in Setup starts.
-    fn roused(self) -> RecordBook
-        ensures { result ≡ record_roused_in self.state self }
-    {
-        match self.state {
-            RunState::Setup => RecordBook {
-                state: RunState::Running,
-                ..self
-            },
-            _ => self,
-        }
-    }
-
-    // A post starts a book that may start.
-    fn posted(self) -> RecordBook
-        ensures { result ≡ record_posted self }
-    {
-        if self.opening.trigger {
-            self.roused()
-        } else {
-            self
-        }
-    }
-
-    // A running book drops its bytes.
-    fn stopped(self) -> RecordBook
-        ensures { result ≡ record_stopped_in self.state self }
-    {
-        match self.state {
-            RunState::Running => self.dropped(),
-            _ => self,
-        }
-    }
-
-    // The book once its trigger was set: on, it starts; off, it stops.
-    fn triggered(self, trigger: bool) -> RecordBook
-        ensures { result ≡ record_triggered trigger self }
-    {
-        let opening = self.opening.with_trigger(trigger);
-        let book = RecordBook { opening, ..self };
-        if trigger {
-            book.roused()
-        } else {
-            book.stopped()
-        }
-    }
-
-    fn set_trigger(self, bits: u32) -> Turn<RecordBook>
-        ensures { result ≡ record_set_trigger bits self }
-    {
-        if bits > 3 {
-            return Turn::refused(self, Errno::Inval);
-        }
-        let trigger = bits % 2 == RECORD_BIT;
-        Turn::telling(self.triggered(trigger), Answer::Done)
     }
 }
