@@ -1,6 +1,6 @@
 //! What is asked alike of a channel that records and of a mapped one: what it makes of the run, and of its opening.
 
-ghost use Rattle.std.specs.Prelude.{◌≡◌, ◌<◌, Ok};
+ghost use Rattle.std.specs.Prelude.{◌≡◌, ◌<◌};
 ghost use Rattle.pcm_oss.specs.Fragments.{AreFragments};
 ghost use Rattle.pcm_desk.specs.RunRequests.{run_ask, run_doing, run_posted, run_set_trigger, run_staying, run_triggered};
 
