@@ -4,7 +4,7 @@ use Rattle.std.specs.Prelude.{eqb}
 use Rattle.std.proofs.lemmas.Bool.{eqb-true}
 use Rattle.pcm_format.specs.declared.settings.Settings.{Settings}
 use Rattle.pcm_oss.specs.declared.event.Event.{Event}
-use Rattle.pcm_oss.specs.declared.event.Event.TheVariants.{Open, Write, Poke, Read, Ioctl, Join, StartGroup, Close, Mixer, Intr}
+use Rattle.pcm_oss.specs.declared.event.Event.TheVariants.{Open, StartGroup, Mixer, Intr}
 use Rattle.pcm_oss.specs.declared.event.Way.{Way}
 use Rattle.pcm_group.proofs.Members.{used-some}
 use Rattle.pcm_desk.specs.declared.device.Held.{Held}
@@ -17,7 +17,8 @@ use Rattle.pcm_desk.specs.Desk.{Desk, DeskTurn, after, channel_at, channel_turn,
 use Rattle.pcm_desk.proofs.Channels.{at-either, at-other, at-put, channel_named, least-unheld, same-channel, turn-way, way-at, way-begun}
 use Rattle.pcm_desk.proofs.Grouping.{by-starting, started-at}
 use Rattle.pcm_desk.proofs.Isolation.{channel-passed}
-use Rattle.pcm_desk.proofs.Turning.{by-opening}
+use Rattle.pcm_desk.specs.Own.{descriptor_of}
+use Rattle.pcm_desk.proofs.Turning.{number_of, by-opening}
 
 -- the book of a channel that plays, of one that records, or of a mapped one; of another way it is the one beside it
 abbrev pub playing_or : PlayBook → Channel → PlayBook
@@ -83,12 +84,7 @@ channel-after device desk event mine P same turns begins starts = at event turns
         → ((fd group : ℕ) → event ≡ StartGroup fd group → group_of desk mine ≡ group → P (starting device (desk_here device desk) (channel_at device desk mine)))
         → P (channel_at device (after device desk event).desk mine)
     at (Open fd way settings) t b s = by-opening (λ (turn : DeskTurn). P (channel_at device turn.desk mine)) desk fd way settings (λ held e. same) (λ shut. same) (λ slot shut found. opens fd way settings slot found (b fd way settings refl))
-    at (Write fd source from count) t b s = named (Write fd source from count) (held_by desk fd) t
-    at (Poke fd offset from count) t b s = named (Poke fd offset from count) (held_by desk fd) t
-    at (Read fd count) t b s = named (Read fd count) (held_by desk fd) t
-    at (Ioctl fd request) t b s = named (Ioctl fd request) (held_by desk fd) t
-    at (Join fd group) t b s = named (Join fd group) (held_by desk fd) t
     at (StartGroup fd group) t b s = by-starting device (λ (turn : DeskTurn). P (channel_at device turn.desk mine)) (held_by desk fd) desk group (λ errno. same) (λ used ready. started group (used-some desk.groups group used) (s fd group refl))
-    at (Close fd) t b s = named (Close fd) (held_by desk fd) t
     at (Mixer request) t b s = same
     at (Intr n) t b s = subst P (sym (channel-passed device desk n mine)) t
+    at event t b s = named event (held_by desk (number_of (descriptor_of event))) t

@@ -5,21 +5,20 @@ use Rattle.std.proofs.lemmas.Bool.{cases_lt, cases_eq}
 use Rattle.std.proofs.lemmas.List.{get_or_past, get_or-map, get_or-replicate, length-map, length-replicate, set_past}
 use Rattle.pcm_format.specs.declared.settings.Settings.{Settings}
 use Rattle.pcm_oss.specs.declared.event.Event.{Event}
-use Rattle.pcm_oss.specs.declared.event.Event.TheVariants.{Open, Write, Poke, Read, Ioctl, Join, StartGroup, Close, Mixer, Intr}
+use Rattle.pcm_oss.specs.declared.event.Event.TheVariants.{Open, StartGroup, Close, Mixer, Intr}
 use Rattle.pcm_oss.specs.declared.event.Way.{Way}
-use Rattle.pcm_oss.specs.declared.event.Way.TheVariants.{Play, Record, Map}
 use Rattle.pcm_group.specs.declared.sync_groups.Groups.{Groups}
 use Rattle.pcm_group.proofs.Members.{length-change_in, used-some}
 use Rattle.pcm_desk.specs.declared.device.Held.{Held}
 use Rattle.pcm_desk.specs.declared.limits.TheConstants.{DESCRIPTORS}
 use Rattle.pcm_desk.specs.Device.{DeviceSeen}
-use Rattle.pcm_desk.specs.Channels.{Channel, Grouping, Mapped, Playing, Recording, capturing, channel_begun, map_passing, may_be_held, own_turn, passing, play_passing, play_starting, record_starting, starting, way_of}
-use Rattle.pcm_desk.specs.Desk.{Desk, DeskTurn, after, channel_at, channel_turn, desk_at_start, desk_here, group_of, group_started, grouping_at, held_by, interrupt_turn, map_unopened, opened_at, play_unopened, record_unopened, with_channel_at}
+use Rattle.pcm_desk.specs.Channels.{Channel, Grouping, channel_begun, may_be_held, own_turn, passing, starting, way_of}
+use Rattle.pcm_desk.specs.Desk.{Desk, DeskTurn, after, channel_at, channel_turn, desk_at_start, desk_here, group_of, group_started, grouping_at, held_by, interrupt_turn, opened_at, with_channel_at}
 use Rattle.pcm_desk.specs.Events.{after_all}
-use Rattle.pcm_desk.specs.Own.{HoldApart, slots_of}
+use Rattle.pcm_desk.specs.Own.{HoldApart, descriptor_of, slots_of}
 use Rattle.pcm_desk.proofs.Channels.{ClosesNone, at-other, at-put, begun-held, channel_named, least-unheld, passing-held, same-channel, slots-put, starting-held, turn-held, turn-way, way-at, way-begun}
 use Rattle.pcm_desk.proofs.Grouping.{by-starting, started-at}
-use Rattle.pcm_desk.proofs.Turning.{by-opening, by-turning}
+use Rattle.pcm_desk.proofs.Turning.{number_of, by-opening, by-turning}
 
 -- ---- channels
 
@@ -50,17 +49,11 @@ moved desk new same moves h =
 
 -- a channel that was put at a slot, be it one that may be held
 put_taken : (desk : Desk) (held : Held) (channel : Channel) → way_of channel ≡ held.way → held.slot < slots_of desk held.way → may_be_held channel ≡ true → IsTaken (with_channel_at desk held.slot channel) held
-put_taken desk held channel is there may = record {
-  within = subst (λ (n : ℕ). held.slot < n) (sym (slots-put desk held.slot channel held.way)) there;
-  may = λ device. ap may_be_held (at-put device desk held channel is there) ∙ may;
-}
+put_taken desk held channel is there may = grind (arith, at-put, slots-put)
 
 -- leaves every other
 other_taken : (desk : Desk) (held : Held) (channel : Channel) (other : Held) → way_of channel ≡ held.way → other ≢ held → IsTaken desk other → IsTaken (with_channel_at desk held.slot channel) other
-other_taken desk held channel other is differ t = record {
-  within = subst (λ (n : ℕ). other.slot < n) (sym (slots-put desk held.slot channel other.way)) t.within;
-  may = λ device. ap may_be_held (at-other device desk held channel other is differ) ∙ t.may device;
-}
+other_taken desk held channel other is differ t = grind (arith, at-other, slots-put)
 
 -- and so each that may be held, where it may be so itself
 either_taken : (desk : Desk) (held : Held) (channel : Channel) (other : Held) → way_of channel ≡ held.way → may_be_held channel ≡ true → IsTaken desk other → IsTaken (with_channel_at desk held.slot channel) other
@@ -75,14 +68,7 @@ either_taken desk held channel other is may t =
 -- what stands at a descriptor, one of which was set
 reads : (descriptors : List (Option Held)) (at fd : ℕ) (put : Option Held) (held : Held) → get_or (set descriptors at put) fd None ≡ Some held
     → ((fd ≡ at) × (put ≡ Some held)) ⊎ ((get_or descriptors fd None ≡ Some held) × (fd ≡ at → length descriptors ≤ at))
-reads descriptors at fd put held e =
-    elim (cases_eq fd at) [
-      | inl same ↦ elim (cases_lt at (length descriptors)) [
-        | inl here ↦ inl (same, sym (get_or-set_same descriptors at put None here) ∙ subst (λ (k : ℕ). get_or (set descriptors at put) k None ≡ Some held) same e)
-        | inr past ↦ inr (ap (λ (l : List (Option Held)). get_or l fd None) (sym (set_past descriptors at put past)) ∙ e, λ _. past)
-      ]
-      | inr differ ↦ inr (sym (get_or-set_other descriptors at fd put None differ) ∙ e, λ same. absurd (differ same))
-    ]
+reads descriptors at fd put held e = let same = cases_eq fd at in let here = cases_lt at (length descriptors) in grind (arith, get_or-set_same, get_or-set_other, set_past)
 
 -- each channel but this one may be held as before
 abbrev Spares : Desk → Desk → Held → Type 0
@@ -96,17 +82,11 @@ shut desk new fd held e put spares h =
   where
     -- the descriptor is there, since it holds something
     there_is : fd < length desk.descriptors
-    there_is = elim (cases_lt fd (length desk.descriptors)) [
-      | inl here ↦ here
-      | inr past ↦ absurd (let none : None ≡ Some held = sym (get_or_past desk.descriptors fd None past) ∙ e in cc)
-    ]
+    there_is = let here = cases_lt fd (length desk.descriptors) in grind (arith, get_or_past)
 
     -- what is open still was open before, and is another
     was : (d : ℕ) (mine : Held) → held_by new d ≡ Some mine → (held_by desk d ≡ Some mine) × (d ≢ fd)
-    was d mine there = elim (reads desk.descriptors fd d None mine (ap (λ (l : List (Option Held)). get_or l d None) (sym put) ∙ there)) [
-      | inl new ↦ absurd (let none : None ≡ Some mine = new.1 in cc)
-      | inr old ↦ (old.0, λ same. let past = old.1 same in omega (arith, there_is))
-    ]
+    was d mine there = let read = reads desk.descriptors fd d None mine (ap (λ (l : List (Option Held)). get_or l d None) (sym put) ∙ there) in grind (arith, there_is)
 
 -- a descriptor is opened, with a channel that none holds
 is_opened : (desk new : Desk) (fd : ℕ) (held : Held) → new.descriptors ≡ set desk.descriptors fd (Some held) → IsTaken new held → (IsTaken desk held → ⊥) → Spares desk new held → HoldApart desk → HoldApart new
@@ -114,14 +94,7 @@ is_opened desk new fd held put has free spares h = hold_apart new each apart
   where
     -- what stands at a descriptor is the new channel at this one, or what stood there
     at : (d : ℕ) (mine : Held) → held_by new d ≡ Some mine → ((d ≡ fd) × (held ≡ mine)) ⊎ (held_by desk d ≡ Some mine)
-    at d mine there = elim (reads desk.descriptors fd d (Some held) mine (ap (λ (l : List (Option Held)). get_or l d None) (sym put) ∙ there)) [
-      | inl is ↦ inl (is.0, ap (λ (o : Option Held). or_this o) is.1)
-      | inr old ↦ inr old.0
-    ]
-      where
-        or_this : Option Held → Held
-        or_this None = held
-        or_this (Some other) = other
+    at d mine there = let read = reads desk.descriptors fd d (Some held) mine (ap (λ (l : List (Option Held)). get_or l d None) (sym put) ∙ there) in grind arith
 
     differ : (d : ℕ) (mine : Held) → held_by desk d ≡ Some mine → mine ≢ held
     differ d mine there same = free (subst (IsTaken desk) same (taken desk d mine h there))
@@ -133,16 +106,13 @@ is_opened desk new fd held put has free spares h = hold_apart new each apart
     ]
 
     apart : (d other : ℕ) (mine theirs : Held) → held_by new d ≡ Some mine → held_by new other ≡ Some theirs → mine ≡ theirs → d ≡ other
-    apart d other mine theirs there here same = elim (at d mine there) [
-      | inl is ↦ elim (at other theirs here) [
-        | inl too ↦ is.0 ∙ sym too.0
-        | inr old ↦ absurd (differ other theirs old (sym same ∙ sym is.1))
-      ]
-      | inr old ↦ elim (at other theirs here) [
-        | inl too ↦ absurd (differ d mine old (same ∙ sym too.1))
-        | inr both ↦ h.apart d other mine theirs old both same
-      ]
-    ]
+    apart d other mine theirs there here same =
+        let first = at d mine there in
+        let second = at other theirs here in
+        let mine_differs = differ d mine in
+        let theirs_differs = differ other theirs in
+        let both = h.apart d other mine theirs in
+        grind arith
 
 -- ---- each event
 
@@ -195,64 +165,51 @@ closes device desk fd h = by-turning (λ (t : DeskTurn). HoldApart t.desk) devic
 
 -- the groups have no part in which descriptor holds which channel
 pub regrouped : (desk : Desk) (groups : Groups) → HoldApart desk → HoldApart (record desk { groups = groups })
-regrouped desk groups h = record { within = h.within; taken = h.taken; apart = h.apart }
+regrouped desk groups h = grind arith
 
 -- a start of a group
+slots_started : (device : DeviceSeen) (desk : Desk) (group : ℕ) (way : Way) → slots_of (group_started device desk group) way ≡ slots_of desk way
+slots_started device desk group way = grind (arith, length-change_in)
+
 started : (device : DeviceSeen) (desk : Desk) (group : ℕ) → 0 < group → HoldApart desk → HoldApart (group_started device desk group)
 started device desk group some h = moved desk (group_started device desk group) (λ fd. refl) (λ held t. record { within = within held t.within; may = may held t }) h
   where
     within : (held : Held) → held.slot < slots_of desk held.way → held.slot < slots_of (group_started device desk group) held.way
-    within held = at held.way
-      where
-        at : (way : Way) → held.slot < slots_of desk way → held.slot < slots_of (group_started device desk group) way
-        at Play there = omega (arith, there, length-change_in group (play_starting device (desk_here device desk)) desk.groups.play desk.play)
-        at Record there = omega (arith, there, length-change_in group record_starting desk.groups.recording desk.recording)
-        at Map there = there
+    within held there = omega (arith, slots_started device desk group held.way)
 
     may : (held : Held) → IsTaken desk held → (seen : DeviceSeen) → may_be_held (channel_at seen (group_started device desk group) held) ≡ true
-    may held t seen = ap may_be_held (started-at seen device desk group held some) ∙ either (eqb (group_of desk held) group)
-      where
-        either : (b : Bool) → may_be_held (cond b (starting device (desk_here device desk) (channel_at seen desk held)) (channel_at seen desk held)) ≡ true
-        either true = starting-held device (desk_here device desk) (channel_at seen desk held) (t.may seen)
-        either false = t.may seen
+    may held t seen =
+        let old = t.may seen in
+        let new = starting-held device (desk_here device desk) (channel_at seen desk held) old in
+        let either : (b : Bool) → may_be_held (cond b (starting device (desk_here device desk) (channel_at seen desk held)) (channel_at seen desk held)) ≡ true = λ b. grind arith in
+        ap may_be_held (started-at seen device desk group held some) ∙ either (eqb (group_of desk held) group)
 
 -- an interrupt
+slots_passed : (device : DeviceSeen) (n : ℕ) (desk : Desk) (way : Way) → slots_of (interrupt_turn device desk n).desk way ≡ slots_of desk way
+slots_passed device n desk way = grind (arith, length-map)
+
+passes : (seen device : DeviceSeen) (n : ℕ) (desk : Desk) (held : Held) → held.slot < slots_of desk held.way → channel_at seen (interrupt_turn device desk n).desk held ≡ passing device desk.handed n (channel_at seen desk held)
+passes seen device n desk held there = grind (arith, get_or-map)
+
 passed : (device : DeviceSeen) (n : ℕ) (desk : Desk) → HoldApart desk → HoldApart (interrupt_turn device desk n).desk
 passed device n desk h = moved desk (interrupt_turn device desk n).desk (λ fd. refl) (λ held t. record { within = within held t.within; may = may held t }) h
   where
     within : (held : Held) → held.slot < slots_of desk held.way → held.slot < slots_of (interrupt_turn device desk n).desk held.way
-    within held = at held.way
-      where
-        at : (way : Way) → held.slot < slots_of desk way → held.slot < slots_of (interrupt_turn device desk n).desk way
-        at Play there = omega (arith, there, length-map desk.play (play_passing device desk.handed n))
-        at Record there = omega (arith, there, length-map desk.recording (capturing device n))
-        at Map there = omega (arith, there, length-map desk.mapped (map_passing device desk.handed n))
-
-    passes : (held : Held) → held.slot < slots_of desk held.way → (seen : DeviceSeen) → channel_at seen (interrupt_turn device desk n).desk held ≡ passing device desk.handed n (channel_at seen desk held)
-    passes held there seen = at held.way there
-      where
-        at : (way : Way) → held.slot < slots_of desk way → channel_at seen (interrupt_turn device desk n).desk (channel_named way held.slot) ≡ passing device desk.handed n (channel_at seen desk (channel_named way held.slot))
-        at Play there = ap Playing (get_or-map (play_passing device desk.handed n) desk.play held.slot (play_unopened seen) (play_unopened seen) there)
-        at Record there = ap Recording (get_or-map (capturing device n) desk.recording held.slot (record_unopened seen) (record_unopened seen) there)
-        at Map there = ap Mapped (get_or-map (map_passing device desk.handed n) desk.mapped held.slot (map_unopened seen) (map_unopened seen) there)
+    within held there = omega (arith, slots_passed device n desk held.way)
 
     may : (held : Held) → IsTaken desk held → (seen : DeviceSeen) → may_be_held (channel_at seen (interrupt_turn device desk n).desk held) ≡ true
-    may held t seen = ap may_be_held (passes held t.within seen) ∙ passing-held device desk.handed n (channel_at seen desk held) (t.may seen)
+    may held t seen = ap may_be_held (passes seen device n desk held t.within) ∙ passing-held device desk.handed n (channel_at seen desk held) (t.may seen)
 
 -- Two descriptors hold two channels after every event.
 pub apart-after : (device : DeviceSeen) (desk : Desk) (event : Event) → HoldApart desk → HoldApart (after device desk event).desk
 apart-after device desk (Open fd way settings) h =
     by-opening (λ (t : DeskTurn). HoldApart t.desk) desk fd way settings (λ held e. h) (λ shut. h)
     (λ slot shut found. let free = least-unheld device desk way slot found in opens device desk fd way settings slot free.unheld free.there h)
-apart-after device desk (Write fd source at count) h = turns device desk (Write fd source at count) fd tt (λ held. refl) h
-apart-after device desk (Poke fd offset at count) h = turns device desk (Poke fd offset at count) fd tt (λ held. refl) h
-apart-after device desk (Read fd count) h = turns device desk (Read fd count) fd tt (λ held. refl) h
-apart-after device desk (Ioctl fd request) h = turns device desk (Ioctl fd request) fd tt (λ held. refl) h
-apart-after device desk (Join fd group) h = turns device desk (Join fd group) fd tt (λ held. refl) h
 apart-after device desk (StartGroup fd group) h = by-starting device (λ (t : DeskTurn). HoldApart t.desk) (held_by desk fd) desk group (λ errno. h) (λ used ready. started device desk group (used-some desk.groups group used) h)
 apart-after device desk (Close fd) h = closes device desk fd h
 apart-after device desk (Mixer request) h = record { within = h.within; taken = h.taken; apart = h.apart }
 apart-after device desk (Intr n) h = passed device n desk h
+apart-after device desk event h = turns device desk event (number_of (descriptor_of event)) tt (λ held. refl) h
 
 -- and after any events
 pub apart-all : (device : DeviceSeen) (desk : Desk) (events : List Event) → HoldApart desk → HoldApart (after_all device desk events)
@@ -261,15 +218,14 @@ apart-all device desk (event ∷ events) h = apart-all device (after device desk
 
 -- a desk with no open descriptor
 pub apart-shut : (desk : Desk) → ((fd : ℕ) (held : Held) → held_by desk fd ≡ Some held → ⊥) → HoldApart desk
-apart-shut desk none = record {
-  within = λ fd held there. absurd (none fd held there);
-  taken = λ fd held device there. absurd (none fd held there);
-  apart = λ fd other held theirs there here same. absurd (none fd held there);
-}
+apart-shut desk none = grind arith
 
 -- before the first event
+none_held : (n fd : ℕ) (held : Held) → get_or (replicate {A = Option Held} n None) fd None ≡ Some held → ⊥
+none_held n fd held there =
+    let here = cases_lt fd n in
+    let long : length (replicate {A = Option Held} n None) ≡ n = length-replicate n None in
+    grind (arith, get_or-replicate, get_or_past)
+
 pub apart-start : (device : DeviceSeen) → HoldApart (desk_at_start device)
-apart-start device = apart-shut (desk_at_start device) (λ fd held there. elim (cases_lt fd DESCRIPTORS) [
-  | inl here ↦ (let none : None ≡ Some held = sym (get_or-replicate DESCRIPTORS fd None None here) ∙ there in cc)
-  | inr past ↦ (let none : None ≡ Some held = sym (get_or_past (replicate DESCRIPTORS None) fd None (let nothing : Option Held = None in omega (arith, length-replicate DESCRIPTORS nothing))) ∙ there in cc)
-])
+apart-start device = apart-shut (desk_at_start device) (none_held DESCRIPTORS)

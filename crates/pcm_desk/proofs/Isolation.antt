@@ -19,12 +19,7 @@ use Rattle.pcm_desk.specs.Own.{GoesAlone, GoesByDescriptor, HoldApart, IsIsolate
 use Rattle.pcm_desk.proofs.Channels.{at-other, at-put, channel_named, least-unheld, turn-way, way-at, way-begun}
 use Rattle.pcm_desk.proofs.Grouping.{by-starting, is-other, is-this, started-at}
 use Rattle.pcm_desk.proofs.Slots.{map_at-passing, play_at-passing, record_at-capturing}
-use Rattle.pcm_desk.proofs.Turning.{by-opening}
-
--- the number of a descriptor
-abbrev pub number_of : Option ℕ → ℕ
-number_of None = 0
-number_of (Some fd) = fd
+use Rattle.pcm_desk.proofs.Turning.{number_of, by-opening}
 
 pub named-fd : (at fd : ℕ) → Some at ≡ Some fd → at ≡ fd
 named-fd at fd e = cc

@@ -26,8 +26,8 @@ use Rattle.pcm_desk.specs.Events.{after_all}
 use Rattle.pcm_desk.proofs.Apart.{apart-after, apart-start}
 use Rattle.pcm_desk.proofs.Grouping.{by-starting}
 use Rattle.pcm_desk.proofs.Channels.{at-other, channel_named, least-unheld, same-channel, way-at, way-begun}
-use Rattle.pcm_desk.proofs.Isolation.{by-descriptor, isolated, number_of, opened-is, other-waits}
-use Rattle.pcm_desk.proofs.Turning.{by-opening}
+use Rattle.pcm_desk.proofs.Isolation.{by-descriptor, isolated, opened-is, other-waits}
+use Rattle.pcm_desk.proofs.Turning.{number_of, by-opening}
 
 -- ---- an event of its own
 

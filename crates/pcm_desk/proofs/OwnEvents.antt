@@ -1,25 +1,24 @@
 -- The replies to a client along a list of events depend on its own events alone.
 use Rattle.std.proofs.Common.{◌≡◌, ◌≢◌, ℕ, ◌+◌, ◌<◌, Bool, true, false, cond, List, [], ◌∷◌, Option, Some, None, ◌⊎◌, inl, inr, Result, Ok, Err, refl, sym, ap, ◌∙◌, subst, arith}
-use Rattle.std.specs.Prelude.{All, IsErr, eqb, nat_lt}
-use Rattle.std.proofs.lemmas.Bool.{cases_eq, eqb-true}
+use Rattle.std.specs.Prelude.{All, IsErr, nat_lt}
+use Rattle.std.proofs.lemmas.Bool.{cases_eq}
 use Rattle.std.proofs.lemmas.Bool.Decides.{nat_tests}
 use Rattle.std.proofs.lemmas.List.Elements.{All-head, All-tail}
 use Rattle.pcm_format.specs.declared.settings.Settings.{Settings}
 use Rattle.pcm_oss.specs.declared.event.Event.{Event}
-use Rattle.pcm_oss.specs.declared.event.Event.TheVariants.{Open, Write, Poke, Read, Ioctl, Join, StartGroup, Close, Mixer, Intr}
+use Rattle.pcm_oss.specs.declared.event.Event.TheVariants.{Open, Join, StartGroup, Mixer, Intr}
 use Rattle.pcm_oss.specs.declared.event.Way.{Way}
 use Rattle.pcm_oss.specs.declared.reply.Answer.{Answer}
 use Rattle.pcm_oss.specs.declared.reply.Errno.{Errno}
 use Rattle.pcm_desk.specs.declared.device.Held.{Held}
 use Rattle.pcm_desk.specs.Device.{DeviceSeen, here_at}
-use Rattle.pcm_oss.specs.declared.request.Request.TheVariants.{Sync}
 use Rattle.pcm_group.specs.declared.sync_groups.Groups.{Groups}
 use Rattle.pcm_group.specs.Groups.{groups_joined}
 use Rattle.pcm_group.proofs.Members.{group-dissolved, group-left, used-some}
-use Rattle.pcm_desk.specs.Channels.{Channel, Grouping, Mapped, Playing, Recording, channel_begun, member_refusal, own_join, own_request, own_turn, ungrouped}
+use Rattle.pcm_desk.specs.Channels.{Channel, Grouping, channel_begun, own_join, own_turn, ungrouped}
 use Rattle.pcm_desk.specs.Desk.{Desk, DeskTurn, after, channel_at, group_of, grouping_at, groups_after, held_by, is_member, with_channel_at}
 use Rattle.pcm_desk.specs.Own.{GoesByDescriptor, GoesByEach, HoldApart, IsIsolatedBy, MembersWait, StartsTogether, descriptor_of, held_after}
-use Rattle.pcm_desk.specs.OwnEvents.{JoinsNone, Opens, closes, concerns, joins, names, own_after, own_events, own_replies, replies_to, unnamed}
+use Rattle.pcm_desk.specs.OwnEvents.{JoinsNone, Opens, closes, concerns, joins, own_after, own_events, own_replies, replies_to, unnamed}
 use Rattle.pcm_desk.specs.Events.{after_all, frames_taken}
 use Rattle.pcm_desk.specs.declared.turn.Turn.{Turn}
 use Rattle.pcm_desk.proofs.Apart.{apart-after}
@@ -27,32 +26,17 @@ use Rattle.pcm_desk.proofs.Channels.{put-again}
 use Rattle.pcm_desk.proofs.Grouping.{by-starting, is-this}
 use Rattle.pcm_desk.proofs.Members.{opened-alone, others-group}
 use Rattle.pcm_desk.proofs.Isolation.{isolated, opened-begins}
-use Rattle.pcm_desk.proofs.Turning.{by-turning, handed-taken}
+use Rattle.pcm_desk.proofs.Turning.{number_of, by-turning, handed-taken}
 
 -- ---- one event
 
 -- a channel turns by an event whatever the number of its descriptor, and whatever bytes a write has
 unnamed_same : (device : DeviceSeen) (handed : ℕ) (event : Event) (channel : Channel) → own_turn device handed ungrouped (unnamed event) channel ≡ own_turn device handed ungrouped event channel
-unnamed_same device handed (Write fd source at count) (Playing book) = refl
-unnamed_same device handed (Write fd source at count) (Recording book) = refl
-unnamed_same device handed (Write fd source at count) (Mapped book) = refl
-unnamed_same device handed (Poke fd offset at count) (Playing book) = refl
-unnamed_same device handed (Poke fd offset at count) (Recording book) = refl
-unnamed_same device handed (Poke fd offset at count) (Mapped book) = refl
-unnamed_same device handed _ channel = refl
+unnamed_same device handed event channel = grind arith
 
 -- and it takes as many frames
 unnamed_taken : (event : Event) → frames_taken (unnamed event) ≡ frames_taken event
-unnamed_taken (Open fd way settings) = refl
-unnamed_taken (Write fd source at count) = refl
-unnamed_taken (Poke fd offset at count) = refl
-unnamed_taken (Read fd count) = refl
-unnamed_taken (Ioctl fd request) = refl
-unnamed_taken (Join fd group) = refl
-unnamed_taken (StartGroup fd group) = refl
-unnamed_taken (Close fd) = refl
-unnamed_taken (Mixer request) = refl
-unnamed_taken (Intr n) = refl
+unnamed_taken event = grind arith
 
 -- the replies from an event on are the same where it has no descriptor's number
 unnamed_replies : (device : DeviceSeen) (handed : ℕ) (event : Event) (channel : Channel) (more : List Event) → own_replies device handed channel (unnamed event ∷ more) ≡ own_replies device handed channel (event ∷ more)
@@ -67,16 +51,7 @@ unnamed_after device handed event channel more =
 
 -- an event of another takes no frames
 others_take : (event : Event) (fd : ℕ) → concerns fd event ≡ false → frames_taken event ≡ 0
-others_take (Open at way settings) fd e = refl
-others_take (Write at source from count) fd e = refl
-others_take (Poke at offset from count) fd e = refl
-others_take (Read at count) fd e = refl
-others_take (Ioctl at request) fd e = refl
-others_take (Join at group) fd e = refl
-others_take (StartGroup at group) fd e = refl
-others_take (Close at) fd e = refl
-others_take (Mixer request) fd e = refl
-others_take (Intr n) fd e = cc
+others_take event fd e = grind arith
 
 -- ---- who is in no group
 
@@ -92,17 +67,7 @@ member_alone group e = grind (arith, nat_tests)
 
 -- what an event leaves of the group of a channel of its own, which joins none
 own_group : (event : Event) (fd : ℕ) (held : Held) (grouping : Grouping) (groups : Groups) (old new : Desk) → concerns fd event ≡ true → old.groups ≡ groups → new.groups ≡ groups_after event held grouping groups → IsAlone old held → IsAlone new held
-own_group event fd held grouping groups old new mine was is alone = ap (λ (g : Groups). group_of (record new { groups = g }) held) is ∙ stays event mine
-  where
-    same : group_of (record new { groups = groups }) held ≡ 0
-    same = ap (λ (g : Groups). group_of (record old { groups = g }) held) (sym was) ∙ alone
-
-    stays : (event : Event) → concerns fd event ≡ true → group_of (record new { groups = groups_after event held grouping groups }) held ≡ 0
-    stays (Ioctl at Sync) mine = group-left groups held.way held.slot
-    stays (Ioctl at _) mine = same
-    stays (Join at group) mine = cc
-    stays (Close at) mine = group-left groups held.way held.slot
-    stays _ mine = same
+own_group event fd held grouping groups old new mine was is alone = grind (arith, group-left)
 
 -- what holds of a descriptor's channel of no group after an event that isn't its own, and after one of its own, be that a close or not
 pub record IsOther (device : DeviceSeen) (held : Held) (fd : ℕ) (old new : Desk) : Type 0 where
@@ -118,18 +83,11 @@ pub record IsMine (device : DeviceSeen) (event : Event) (held : Held) (fd : ℕ)
 
 -- an interrupt is answered alike at every desk
 told_alike : (device : DeviceSeen) (event : Event) (desk : Desk) (fd : ℕ) (channel : Channel) → descriptor_of event ≡ None → concerns fd event ≡ true → (after device desk event).reply ≡ (own_turn device desk.handed ungrouped event channel).reply
-told_alike device (Intr n) desk fd channel none mine = refl
-told_alike device (StartGroup at group) desk fd channel none mine = cc
-told_alike device _ desk fd channel none mine = cc
+told_alike device event desk fd channel none mine = grind arith
 
 -- an event of its own that is no close leaves what it holds
 stays_open : (event : Event) (fd : ℕ) (held : Held) → descriptor_of event ≡ Some fd → closes fd event ≡ false → held_after event held ≡ Some held
-stays_open (Close at) fd held n e = absurd (let same : at ≡ fd = ap (λ (o : Option ℕ). number_in o) n in grind (arith, nat_tests))
-  where
-    number_in : Option ℕ → ℕ
-    number_in None = 0
-    number_in (Some k) = k
-stays_open _ fd held n e = refl
+stays_open event fd held n e = grind (arith, nat_tests)
 
 -- an event that starts no group
 abbrev StartsNone : Event → Type 0
@@ -137,12 +95,10 @@ StartsNone (StartGroup at group) = ⊥
 StartsNone _ = Unit {0}
 
 mine_starts : (event : Event) (fd : ℕ) → concerns fd event ≡ true → StartsNone event
-mine_starts (StartGroup at group) fd mine = cc
-mine_starts _ fd mine = tt
+mine_starts event fd mine = grind arith
 
 named_starts : (event : Event) (fd : ℕ) → descriptor_of event ≡ Some fd → StartsNone event
-named_starts (StartGroup at group) fd n = cc
-named_starts _ fd n = tt
+named_starts event fd n = grind arith
 
 isolated_by : (device : DeviceSeen) (event : Event) (desk : Desk) (named : Option ℕ) → descriptor_of event ≡ named → StartsNone event → HoldApart desk
     → IsIsolatedBy named device event desk (after device desk event).desk (after device desk event).reply
@@ -151,23 +107,12 @@ isolated_by device event desk named n starts h =
   where
     by_kind : (event : Event) → StartsNone event → IsIsolatedBy (descriptor_of event) device event desk (after device desk event).desk (after device desk event).reply
     by_kind (StartGroup at group) starts = absurd starts
-    by_kind (Open fd way settings) starts = isolated device (Open fd way settings) desk h
-    by_kind (Write fd source at count) starts = isolated device (Write fd source at count) desk h
-    by_kind (Poke fd offset at count) starts = isolated device (Poke fd offset at count) desk h
-    by_kind (Read fd count) starts = isolated device (Read fd count) desk h
-    by_kind (Ioctl fd request) starts = isolated device (Ioctl fd request) desk h
-    by_kind (Join fd group) starts = isolated device (Join fd group) desk h
-    by_kind (Close fd) starts = isolated device (Close fd) desk h
-    by_kind (Mixer request) starts = isolated device (Mixer request) desk h
-    by_kind (Intr n) starts = isolated device (Intr n) desk h
+    by_kind event starts = isolated device event desk h
 
 -- the groups have no part in an event that concerns a channel of none
 ungrouped_same : (device : DeviceSeen) (event : Event) (desk : Desk) (fd : ℕ) (held : Held) (channel : Channel) → concerns fd event ≡ true → IsAlone desk held
     → own_turn device desk.handed (grouping_at device desk held) event channel ≡ own_turn device desk.handed ungrouped event channel
-ungrouped_same device (Ioctl at request) desk fd held channel mine alone =
-    ap (λ (b : Bool). own_request device (here_at device desk.handed) request (member_refusal b request) channel) (member_alone (group_of desk held) alone)
-ungrouped_same device (Join at group) desk fd held channel mine alone = cc
-ungrouped_same device _ desk fd held channel mine alone = refl
+ungrouped_same device event desk fd held channel mine alone = grind arith
 
 mine_by : (device : DeviceSeen) (event : Event) (desk : Desk) (fd : ℕ) (held : Held) (named : Option ℕ) → descriptor_of event ≡ named → concerns fd event ≡ true → (named ≡ None) ⊎ (named ≡ Some fd) → HoldApart desk → held_by desk fd ≡ Some held → IsAlone desk held
     → IsMine device event held fd desk
@@ -204,36 +149,15 @@ other_by device event desk fd at held n differ h e a =
     record { channel = turned.strangers fd held differ e; holds = turned.holds fd differ ∙ e; alone = theirs_group device event desk fd at held (held_by desk at) refl differ h e turned ∙ a }
 
 -- whose an event is
-mine_named : (fd : ℕ) (named : Option ℕ) → names fd named ≡ true → named ≡ Some fd
-mine_named fd None e = cc
-mine_named fd (Some at) e = ap (λ (k : ℕ). Some k) (eqb-true at fd e)
-
 concerned : (fd : ℕ) (event : Event) → concerns fd event ≡ true → (descriptor_of event ≡ None) ⊎ (descriptor_of event ≡ Some fd)
-concerned fd (Intr n) e = inl refl
-concerned fd (Join at group) e = cc
-concerned fd event e = inr (mine_named fd (descriptor_of event) e)
+concerned fd event e = grind (arith, nat_tests)
 
 pub mine-turns : (device : DeviceSeen) (event : Event) (desk : Desk) (fd : ℕ) (held : Held) → concerns fd event ≡ true → HoldApart desk → held_by desk fd ≡ Some held → IsAlone desk held → IsMine device event held fd desk
 mine-turns device event desk fd held e h m a = mine_by device event desk fd held (descriptor_of event) refl e (concerned fd event e) h m a
 
 -- a start of a group leaves what is in none
 started_leaves : (device : DeviceSeen) (desk new : Desk) (group fd : ℕ) (held : Held) (reply : Result Answer Errno) → StartsTogether device group desk new reply → held_by desk fd ≡ Some held → IsAlone desk held → (IsErr reply ⊎ (0 < group)) → IsOther device held fd desk new
-started_leaves device desk new group fd held (Err errno) s m a which = record {
-  channel = ap (λ (d : Desk). channel_at device d held) s.refused;
-  holds = s.passes fd ∙ m;
-  alone = ap (λ (d : Desk). group_of d held) s.refused ∙ a;
-}
-started_leaves device desk new group fd held (Ok answer) s m a (inl refused) = cc
-started_leaves device desk new group fd held (Ok answer) s m a (inr some) = record {
-  channel = s.others held (λ same. omega (arith, same, a));
-  holds = s.passes fd ∙ m;
-  alone = ap (λ (g : Groups). group_of (record new { groups = g }) held) s.groups ∙ group-dissolved group desk.groups held.way held.slot
-      ∙ either (eqb (group_of desk held) group);
-}
-  where
-    either : (b : Bool) → cond b 0 (group_of desk held) ≡ 0
-    either true = refl
-    either false = a
+started_leaves device desk new group fd held reply s m a which = let gone = group-dissolved group desk.groups held.way held.slot in grind arith
 
 started_some : (device : DeviceSeen) (desk : Desk) (fd group : ℕ) → IsErr (after device desk (StartGroup fd group)).reply ⊎ (0 < group)
 started_some device desk fd group =
@@ -252,25 +176,16 @@ pub other-stays : (device : DeviceSeen) (event : Event) (desk : Desk) (fd : ℕ)
     → IsOther device held fd desk (after device desk event).desk
 other-stays device (Join at group) desk fd held e refused h m a =
     elim (cases_eq at fd) [
-      | inl same ↦ (let is = refused_leaves device desk at group (refused (is-this at fd same)) in record {
-        channel = ap (λ (d : Desk). channel_at device d held) is;
-        holds = ap (λ (d : Desk). held_by d fd) is ∙ m;
-        alone = ap (λ (d : Desk). group_of d held) is ∙ a;
-      })
+      | inl same ↦ rw (refused_leaves device desk at group (refused (is-this at fd same))) (record { channel = refl; holds = m; alone = a })
       | inr differ ↦ other_by device (Join at group) desk fd at held refl (λ same. differ (sym same)) h m a
     ]
 other-stays device (StartGroup at group) desk fd held e refused h m a =
     started_leaves device desk (after device desk (StartGroup at group)).desk group fd held (after device desk (StartGroup at group)).reply (isolated device (StartGroup at group) desk h) m a (started_some device desk at group)
-other-stays device (Open at way settings) desk fd held e refused h m a = other_by device (Open at way settings) desk fd at held refl (λ same. grind (arith, nat_tests)) h m a
-other-stays device (Write at source from count) desk fd held e refused h m a = other_by device (Write at source from count) desk fd at held refl (λ same. grind (arith, nat_tests)) h m a
-other-stays device (Poke at offset from count) desk fd held e refused h m a = other_by device (Poke at offset from count) desk fd at held refl (λ same. grind (arith, nat_tests)) h m a
-other-stays device (Read at count) desk fd held e refused h m a = other_by device (Read at count) desk fd at held refl (λ same. grind (arith, nat_tests)) h m a
-other-stays device (Ioctl at request) desk fd held e refused h m a = other_by device (Ioctl at request) desk fd at held refl (λ same. grind (arith, nat_tests)) h m a
-other-stays device (Close at) desk fd held e refused h m a = other_by device (Close at) desk fd at held refl (λ same. grind (arith, nat_tests)) h m a
 other-stays device (Mixer request) desk fd held e refused h m a =
     let goes : GoesByEach device (Mixer request) desk (after device desk (Mixer request)).desk = isolated device (Mixer request) desk h in
     record { channel = goes.each held; holds = goes.passes fd ∙ m; alone = ap (λ (g : Groups). group_of (record desk { groups = g }) held) goes.groups ∙ a }
 other-stays device (Intr n) desk fd held e refused h m a = cc
+other-stays device event desk fd held e refused h m a = other_by device event desk fd (number_of (descriptor_of event)) held refl (λ same. grind (arith, nat_tests)) h m a
 
 -- ---- a list of events
 
@@ -280,8 +195,7 @@ handed_stays device desk event fd e = let taken = handed-taken device desk event
 
 -- an event that isn't its own doesn't close it
 pub others-go : (event : Event) (fd : ℕ) → concerns fd event ≡ false → closes fd event ≡ false
-others-go (Close at) fd e = e
-others-go _ fd e = refl
+others-go event fd e = grind arith
 
 -- the replies to one event and to those after it
 replies_step : (device : DeviceSeen) (event : Event) (events : List Event) (desk : Desk) (fd : ℕ) (held : Held) (own closing : Bool) → concerns fd event ≡ own → closes fd event ≡ closing → HoldApart desk → held_by desk fd ≡ Some held → IsAlone desk held
@@ -375,16 +289,10 @@ holds_named device event desk fd at held n h m still =
     ]
 
 holds_still : (device : DeviceSeen) (event : Event) (desk : Desk) (fd : ℕ) (held : Held) → HoldApart desk → held_by desk fd ≡ Some held → closes fd event ≡ false → held_by (after device desk event).desk fd ≡ Some held
-holds_still device (Open at way settings) desk fd held h m still = holds_named device (Open at way settings) desk fd at held refl h m still
-holds_still device (Write at source from count) desk fd held h m still = holds_named device (Write at source from count) desk fd at held refl h m still
-holds_still device (Poke at offset from count) desk fd held h m still = holds_named device (Poke at offset from count) desk fd at held refl h m still
-holds_still device (Read at count) desk fd held h m still = holds_named device (Read at count) desk fd at held refl h m still
-holds_still device (Ioctl at request) desk fd held h m still = holds_named device (Ioctl at request) desk fd at held refl h m still
-holds_still device (Join at group) desk fd held h m still = holds_named device (Join at group) desk fd at held refl h m still
 holds_still device (StartGroup at group) desk fd held h m still = (isolated device (StartGroup at group) desk h).passes fd ∙ m
-holds_still device (Close at) desk fd held h m still = holds_named device (Close at) desk fd at held refl h m still
 holds_still device (Mixer request) desk fd held h m still = m
 holds_still device (Intr n) desk fd held h m still = m
+holds_still device event desk fd held h m still = holds_named device event desk fd (number_of (descriptor_of event)) held refl h m still
 
 -- As long as it isn't closed, a descriptor holds its channel,
 pub holds-own : (device : DeviceSeen) (desk : Desk) (fd : ℕ) (held : Held) (events : List Event) → HoldApart desk → held_by desk fd ≡ Some held → All (λ (event : Event). closes fd event ≡ false) events

@@ -10,6 +10,11 @@ use Rattle.pcm_desk.specs.Device.{DeviceSeen}
 use Rattle.pcm_desk.specs.Desk.{Desk, DeskTurn, after, channel_turn, held_by, least_free, open_at, open_turn, refusing}
 use Rattle.pcm_desk.specs.Events.{frames_taken}
 
+-- the number of a descriptor
+abbrev pub number_of : Option ℕ → ℕ
+number_of None = 0
+number_of (Some fd) = fd
+
 -- an event of a descriptor, which is refused where nothing is open
 pub by-turning : (D : DeskTurn → Type 0) (device : DeviceSeen) (desk : Desk) (event : Event) (found : Option Held) → (found ≡ None → D (refusing desk BadF)) → ((held : Held) → found ≡ Some held → D (channel_turn device desk event (Some held)))
     → D (channel_turn device desk event found)

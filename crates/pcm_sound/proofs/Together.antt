@@ -26,7 +26,7 @@ use Rattle.pcm_desk.specs.PlayBooks.{frames_written, is_draining, is_primed, is_
 use Rattle.pcm_desk.specs.PlayRequests.{play_roused_in, play_with_trigger}
 use Rattle.pcm_desk.specs.PlaySafe.{IsPlayInOrder}
 use Rattle.pcm_desk.specs.RunStates.{is_in_setup, is_running}
-use Rattle.pcm_desk.specs.RecordRequests.{record_roused_in, record_with_trigger}
+use Rattle.pcm_desk.specs.Openings.{with_trigger}
 use Rattle.pcm_desk.specs.Channels.{play_rate_at, play_starting, record_starting}
 use Rattle.pcm_desk.specs.Desk.{Desk, DeskTurn, after, desk_here, group_started, held_by, play_at, play_unopened, record_at}
 use Rattle.pcm_desk.specs.Own.{MembersWait, is_waiting}
@@ -84,8 +84,8 @@ setup_of run_states.Setup e = refl
 setup_of run_states.Free e = cc
 setup_of run_states.Running e = cc
 
-record_started_rest : (book : RecordBook) → book.state ≡ run_states.Setup → record_starting book ≡ record (record_with_trigger true book) { state = run_states.Running }
-record_started_rest book rests = ap (λ (s : RunState). record_roused_in s (record_with_trigger true book)) rests
+record_started_rest : (book : RecordBook) → book.state ≡ run_states.Setup → record_starting book ≡ record book { opening = with_trigger true book.opening; state = run_states.Running }
+record_started_rest book rests = grind arith
 
 -- ---- all members
 
