@@ -1,9 +1,9 @@
 -- What holds of the counts of a mapped book at every moment.
-use Rattle.std.specs.Prelude.{◌≡◌, ◌≤◌, true}
+use Rattle.std.specs.Prelude.{◌≡◌, ℕ, ◌+◌, ◌^◌, ◌<◌, ◌≤◌, true}
 use Rattle.pcm_oss.specs.Fragments.{AreFragments}
 use Rattle.pcm_oss.specs.Volumes.{is_volume}
 use Rattle.pcm_rate.specs.declared.rate.Rate.{Rate}
-use Rattle.pcm_rate.specs.Rates.{need}
+use Rattle.pcm_rate.specs.Rates.{IsRatio, need}
 use Rattle.pcm_desk.specs.declared.map_book.MapBook.{MapBook}
 use Rattle.pcm_desk.specs.declared.run_state.RunState.{RunState}
 use Rattle.pcm_desk.specs.declared.run_state.RunState.TheVariants.{Running}
@@ -22,3 +22,9 @@ pub record MapIsSafe (rate : Rate) (book : MapBook) : Type 0 where
   pub volume : is_volume book.volume ≡ true
   -- each position answered was reached
   pub told : book.opening.told ≤ taken_of book
+
+-- what is needed to count n more frames of the mix
+pub record CanTake (rate : Rate) (n : ℕ) (book : MapBook) : Type 0 where
+  pub ratio : IsRatio rate
+  pub given : book.given + n < 2 ^ 64
+  pub eaten : need rate (book.given + n) < 2 ^ 64

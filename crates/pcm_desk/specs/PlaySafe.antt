@@ -1,5 +1,6 @@
 -- What holds of the counts of a book at every moment.
-use Rattle.std.specs.Prelude.{◌≡◌, ℕ, ◌+◌, ◌-◌, ◌<◌, ◌≤◌, true, false, min, max}
+use Rattle.std.specs.Prelude.{◌≡◌, ℕ, ◌+◌, ◌-◌, ◌*◌, ◌^◌, ◌<◌, ◌≤◌, true, false, min, max}
+use Rattle.pcm_format.specs.Frames.{frame_bytes}
 use Rattle.pcm_oss.specs.Fragments.{AreFragments}
 use Rattle.pcm_oss.specs.Volumes.{is_volume}
 use Rattle.pcm_rate.specs.declared.rate.Rate.{Rate}
@@ -66,3 +67,26 @@ pub record CanTellDelay (rate : Rate) (mix_rate : ℕ) (here : Here) (book : Pla
   pub mix : IsRate mix_rate
   pub place : IsHere here
   pub at : PlayIsHere rate here book
+
+-- ---- what is needed to count
+
+-- what waits: no more was eaten than was written
+pub record IsFilled (book : PlayBook) : Type 0 where
+  pub eaten : book.eaten * frame_bytes book.opening.settings ≤ book.written
+  pub fragments : AreFragments book.opening.fragments
+
+-- and what fits: no more waits than the ring holds
+pub record IsPlayCounted (book : PlayBook) : Type 0 where
+  pub filled : IsFilled book
+  pub fill : play_fill_of book ≤ ring_bytes book.opening
+
+-- the end of a run
+pub record CanEnd (rate : Rate) (book : PlayBook) : Type 0 where
+  pub ratio : IsRatio rate
+  pub count : book.done + book.written < 2 ^ 64
+
+-- n more frames of the mix, after `mixed`
+pub record CanRefill (rate : Rate) (mixed n : ℕ) (book : PlayBook) : Type 0 where
+  pub ratio : IsRatio rate
+  pub given : book.given + n < 2 ^ 64
+  pub within : mixed + n < 2 ^ 64

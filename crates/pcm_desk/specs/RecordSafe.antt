@@ -32,6 +32,12 @@ pub record RecordIsSafe (rate : Rate) (book : RecordBook) : Type 0 where
   -- each position answered was reached
   pub told : book.opening.told ≤ book.kept
 
+-- what is needed to count what waits and what fits
+pub record IsRecordCounted (book : RecordBook) : Type 0 where
+  pub read : book.read ≤ book.kept
+  pub fill : record_fill_of book ≤ ring_bytes book.opening
+  pub fragments : AreFragments book.opening.fragments
+
 -- what is needed so that of n more captured frames those can be kept that have room
 pub record CanKeep (rate : Rate) (n : ℕ) (book : RecordBook) : Type 0 where
   pub ratio : IsRatio rate

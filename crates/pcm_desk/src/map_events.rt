@@ -2,9 +2,9 @@
 
 ghost use Rattle.std.specs.Prelude.{◌≡◌, ◌+◌, ◌*◌, ◌^◌, ◌<◌};
 ghost use Rattle.pcm_format.specs.Frames.{frame_bytes};
-ghost use Rattle.pcm_rate.specs.Rates.{IsRatio, need};
 ghost use Rattle.pcm_oss.specs.Fragments.{AreFragments};
 ghost use Rattle.pcm_desk.specs.RunStates.{is_unheld, is_running, is_in_setup};
+ghost use Rattle.pcm_desk.specs.MapSafe.{CanTake};
 ghost use Rattle.pcm_desk.specs.MapBooks.{map_begun, map_closed, map_emptied, map_gives, map_halted, map_refilled, poke_turn, taken_of};
 
 use crate::{MapBook, Opening, RunState, Turn};
@@ -100,9 +100,7 @@ impl MapBook {
 
     /// The book after an interrupt that mixes `n` frames.
     pub fn refilled(self, rate: Rate, n: u64) -> MapBook
-        requires rate { IsRatio rate }
-        requires given { self.given + n < 2 ^ 64 }
-        requires eaten { need rate (self.given + n) < 2 ^ 64 }
+        requires { CanTake rate n self }
         ensures { result ≡ map_refilled rate n self }
     {
         match self.state {
@@ -113,9 +111,7 @@ impl MapBook {
 
     // What the next `n` frames need is taken.
     fn gives(self, rate: Rate, n: u64) -> MapBook
-        requires rate { IsRatio rate }
-        requires given { self.given + n < 2 ^ 64 }
-        requires eaten { need rate (self.given + n) < 2 ^ 64 }
+        requires { CanTake rate n self }
         ensures { result ≡ map_gives rate n self }
     {
         let given = self.given + n;

@@ -2,9 +2,8 @@
 
 ghost use Rattle.std.specs.Prelude.{◌≡◌, ◌+◌, ◌*◌, ◌^◌, ◌<◌, ◌≤◌};
 ghost use Rattle.pcm_format.specs.Frames.{frame_bytes};
-ghost use Rattle.pcm_oss.specs.Fragments.{AreFragments};
 ghost use Rattle.pcm_rate.specs.Rates.{IsRatio};
-ghost use Rattle.pcm_desk.specs.Openings.{ring_bytes};
+ghost use Rattle.pcm_desk.specs.PlaySafe.{CanEnd, CanRefill, IsPlayCounted, IsFilled};
 ghost use Rattle.pcm_desk.specs.PlayBooks.{accepting, close_turn, drained_in, finished, frames_written, gives, giving, has_given_all, is_draining, is_over, is_play_free, is_play_setup, is_started, last_after, may_start, play_begun, play_is_ready, play_dropped, play_emptied, play_fill_of, play_free_of, play_settled, primed_in, refilled, started_at, started_in, takes_none, underruns_after, write_turn};
 
 use crate::{Here, Opening, PlayBook, PlayState, Turn};
@@ -82,9 +81,7 @@ impl PlayBook {
 
     // The bytes that fit the ring.
     pub(crate) fn free(&self) -> u32
-        requires eaten { self.now.eaten * frame_bytes self.now.opening.settings ≤ self.now.written }
-        requires fill { play_fill_of self.now ≤ ring_bytes self.now.opening }
-        requires fragments { AreFragments self.now.opening.fragments }
+        requires { IsPlayCounted self.now }
         ensures { result ≡ play_free_of self.now }
     {
         self.opening.fragments.size() - self.fill() as u32
@@ -93,9 +90,7 @@ impl PlayBook {
     /// The book after a write of `length` bytes, and how many of them are accepted: as many as fit. A run may start by it.
     pub fn write(self, here: Here, length: u64) -> Turn<PlayBook>
         requires count { self.written + length < 2 ^ 64 }
-        requires eaten { self.eaten * frame_bytes self.opening.settings ≤ self.written }
-        requires fill { play_fill_of self ≤ ring_bytes self.opening }
-        requires fragments { AreFragments self.opening.fragments }
+        requires counted { IsPlayCounted self }
         ensures { result ≡ write_turn here length self }
     {
         if self.takes_none() {
@@ -122,8 +117,7 @@ impl PlayBook {
     // The book after `accepted` more bytes, where `mixed` frames were mixed.
     fn accepting(self, mixed: u64, accepted: u64) -> PlayBook
         requires count { self.written + accepted < 2 ^ 64 }
-        requires eaten { self.eaten * frame_bytes self.opening.settings ≤ self.written }
-        requires fragments { AreFragments self.opening.fragments }
+        requires filled { IsFilled self }
         ensures { result ≡ accepting mixed accepted self }
     {
         let more = PlayBook {
@@ -148,8 +142,7 @@ impl PlayBook {
 
     // A primed book that may start does so at a full fragment.
     fn started(self, mixed: u64) -> PlayBook
-        requires eaten { self.eaten * frame_bytes self.opening.settings ≤ self.written }
-        requires fragments { AreFragments self.opening.fragments }
+        requires { IsFilled self }
         ensures { result ≡ started_in mixed self.state self }
     {
         match self.state {
@@ -171,8 +164,7 @@ impl PlayBook {
 
     // Whether the trigger is on, and a full fragment waits.
     fn may_start(&self) -> bool
-        requires eaten { self.now.eaten * frame_bytes self.now.opening.settings ≤ self.now.written }
-        requires fragments { AreFragments self.now.opening.fragments }
+        requires { IsFilled self.now }
         ensures { result ≡ may_start self.now }
     {
         self.opening.trigger && self.fill() >= u64::from(self.opening.fragments.bytes())
@@ -180,8 +172,7 @@ impl PlayBook {
 
     /// The book after a close.
     pub fn closed(self, rate: Rate, here: Here) -> PlayBook
-        requires rate { IsRatio rate }
-        requires count { self.done + self.written < 2 ^ 64 }
+        requires { CanEnd rate self }
         ensures { result ≡ close_turn rate here self }
     {
         let drained = self.drained(rate, here);
@@ -200,8 +191,7 @@ impl PlayBook {
 
     // No more comes. A part of a frame alone is dropped.
     pub(crate) fn drained(self, rate: Rate, here: Here) -> PlayBook
-        requires rate { IsRatio rate }
-        requires count { self.done + self.written < 2 ^ 64 }
+        requires { CanEnd rate self }
         ensures { result ≡ drained_in rate here self.state self }
     {
         let draining = PlayState::Draining { closed: false };
@@ -258,8 +248,7 @@ impl PlayBook {
 
     /// The book where the mix and the device are: a draining one whose last frame has left the device ends.
     pub fn settled(self, rate: Rate, here: Here) -> PlayBook
-        requires rate { IsRatio rate }
-        requires count { self.done + self.written < 2 ^ 64 }
+        requires { CanEnd rate self }
         ensures { result ≡ play_settled rate here.passed self }
     {
         match self.state {
@@ -306,9 +295,7 @@ impl PlayBook {
 
     /// The book after an interrupt that mixes `n` frames, where `mixed` were mixed before.
     pub fn refilled(self, rate: Rate, mixed: u64, n: u64) -> PlayBook
-        requires rate { IsRatio rate }
-        requires count { self.given + n < 2 ^ 64 }
-        requires mixed { mixed + n < 2 ^ 64 }
+        requires { CanRefill rate mixed n self }
         ensures { result ≡ refilled rate mixed n self }
     {
         match self.state {
@@ -323,9 +310,7 @@ impl PlayBook {
 
     // The frames of an interrupt leave the ring and go into the mix.
     fn gives(self, rate: Rate, mixed: u64, n: u64) -> PlayBook
-        requires rate { IsRatio rate }
-        requires count { self.given + n < 2 ^ 64 }
-        requires mixed { mixed + n < 2 ^ 64 }
+        requires { CanRefill rate mixed n self }
         ensures { result ≡ gives rate mixed n self }
     {
         let needed = rate

@@ -2,13 +2,10 @@
 
 ghost use Rattle.std.specs.Prelude.{◌≡◌, pos, ◌+◌, ◌*◌, ◌^◌, ◌<◌, ◌≤◌, ◌+ℤ◌, ◌≤ℤ◌};
 ghost use Rattle.pcm_format.specs.Frames.{frame_bytes};
-ghost use Rattle.pcm_oss.specs.Fragments.{AreFragments};
 ghost use Rattle.pcm_rate.specs.Rates.{IsRatio};
-ghost use Rattle.pcm_desk.specs.PlayBooks.{play_fill_of, played_of};
-ghost use Rattle.pcm_desk.specs.Openings.{ring_bytes};
-ghost use Rattle.pcm_desk.specs.Here.{IsHere, held_most};
-ghost use Rattle.pcm_desk.specs.PlaySafe.{CanTellDelay, PlayIsHere};
-ghost use Rattle.pcm_feeder.specs.Limits.{IsRate};
+ghost use Rattle.pcm_desk.specs.PlayBooks.{played_of};
+ghost use Rattle.pcm_desk.specs.Here.{held_most};
+ghost use Rattle.pcm_desk.specs.PlaySafe.{CanTellDelay, IsPlayCounted, IsFilled};
 ghost use Rattle.pcm_desk.specs.PlayRequests.{delay_of, device_holds, mark_of, still_to_pass, play_ask, play_posted, play_roused_in, play_set_trigger, play_stopped_in, play_tell_errors, play_triggered, play_with_opening, set_volume};
 
 use crate::{Here, Opening, PlayBook, PlayState, Turn};
@@ -22,15 +19,9 @@ impl PlayBook {
     /// The book after a request of a channel that plays, and the reply, by the rate of the mix, and where it and the device are. What is
     /// asked of recordings alone is refused.
     pub fn asked(self, rate: Rate, mix_rate: u32, here: Here, request: Request) -> Turn<PlayBook>
-        requires rate { IsRatio rate }
-        requires client { IsRate self.opening.settings.rate }
-        requires mix { IsRate mix_rate }
-        requires here { IsHere here }
-        requires at { PlayIsHere rate here self }
+        requires delay { CanTellDelay rate mix_rate here self }
         requires count { self.done + self.written < 2 ^ 64 }
-        requires eaten { self.eaten * frame_bytes self.opening.settings ≤ self.written }
-        requires fill { play_fill_of self ≤ ring_bytes self.opening }
-        requires fragments { AreFragments self.opening.fragments }
+        requires counted { IsPlayCounted self }
         ensures { result ≡ play_ask rate mix_rate here request self }
     {
         match request {
@@ -70,9 +61,7 @@ impl PlayBook {
     // The bytes that wait in the ring, and those that the device's still holds.
     fn delay(&self, rate: Rate, mix_rate: u32, here: Here) -> u32
         requires delay { CanTellDelay rate mix_rate here self.now }
-        requires eaten { self.now.eaten * frame_bytes self.now.opening.settings ≤ self.now.written }
-        requires fill { play_fill_of self.now ≤ ring_bytes self.now.opening }
-        requires fragments { AreFragments self.now.opening.fragments }
+        requires counted { IsPlayCounted self.now }
         ensures { result ≡ delay_of rate mix_rate here self.now }
     {
         self.fill() as u32 + self.device_holds(rate, mix_rate, here)
@@ -108,7 +97,7 @@ impl PlayBook {
     // The bytes that the device has taken since the opening or its last halt.
     fn played(&self) -> u64
         requires count { self.now.done + self.now.written < 2 ^ 64 }
-        requires eaten { self.now.eaten * frame_bytes self.now.opening.settings ≤ self.now.written }
+        requires filled { IsFilled self.now }
         ensures { result ≡ played_of self.now }
     {
         self.done + self.eaten * self.opening.settings.frame_bytes() as u64

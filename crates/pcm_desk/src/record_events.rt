@@ -2,11 +2,9 @@
 
 ghost use Rattle.std.specs.Prelude.{◌≡◌, ◌+◌, ◌^◌, ◌<◌, ◌≤◌};
 ghost use Rattle.pcm_rate.specs.Rates.{IsRatio};
-ghost use Rattle.pcm_oss.specs.Fragments.{AreFragments};
-ghost use Rattle.pcm_desk.specs.Openings.{ring_bytes};
 ghost use Rattle.pcm_desk.specs.RunStates.{is_unheld, is_in_setup, is_running};
 ghost use Rattle.pcm_desk.specs.RecordBooks.{captured, captures, closed, coming, keeping, overruns_after, read_turn, record_begun, record_dropped, record_emptied, record_fill_of, record_free_of};
-ghost use Rattle.pcm_desk.specs.RecordSafe.{CanCapture, CanKeep};
+ghost use Rattle.pcm_desk.specs.RecordSafe.{CanCapture, CanKeep, IsRecordCounted};
 
 use crate::{Opening, RecordBook, RunState, Turn};
 use pcm_format::Settings;
@@ -93,9 +91,7 @@ impl RecordBook {
 
     /// The book after a read of at most `length` bytes, and how many it gets: as many as wait.
     pub fn read(self, length: u64) -> Turn<RecordBook>
-        requires read { self.read ≤ self.kept }
-        requires fill { record_fill_of self ≤ ring_bytes self.opening }
-        requires fragments { AreFragments self.opening.fragments }
+        requires { IsRecordCounted self }
         ensures { result ≡ read_turn length self }
     {
         let waiting = self.fill();
@@ -112,9 +108,7 @@ impl RecordBook {
 
     // The bytes that fit the ring.
     fn free(&self) -> u32
-        requires read { self.now.read ≤ self.now.kept }
-        requires fill { record_fill_of self.now ≤ ring_bytes self.now.opening }
-        requires fragments { AreFragments self.now.opening.fragments }
+        requires { IsRecordCounted self.now }
         ensures { result ≡ record_free_of self.now }
     {
         self.opening.fragments.size() - self.fill() as u32

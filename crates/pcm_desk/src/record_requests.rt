@@ -1,9 +1,7 @@
 //! What a client asks of a channel that records, as changes of its book and answers.
 
-ghost use Rattle.std.specs.Prelude.{◌≡◌, ◌≤◌};
-ghost use Rattle.pcm_oss.specs.Fragments.{AreFragments};
-ghost use Rattle.pcm_desk.specs.Openings.{ring_bytes};
-ghost use Rattle.pcm_desk.specs.RecordBooks.{record_fill_of};
+ghost use Rattle.std.specs.Prelude.{◌≡◌};
+ghost use Rattle.pcm_desk.specs.RecordSafe.{IsRecordCounted};
 ghost use Rattle.pcm_desk.specs.RecordRequests.{record_ask, record_run, record_tell_errors};
 
 use crate::run_requests::{RunAsked, RunChange};
@@ -16,9 +14,7 @@ pub const RECORD_BIT: u32 = 1;
 impl RecordBook {
     /// The book after a request of a channel that records, and the reply. What is asked of channels that play alone is refused.
     pub fn asked(self, request: Request) -> Turn<RecordBook>
-        requires read { self.read ≤ self.kept }
-        requires fill { record_fill_of self ≤ ring_bytes self.opening }
-        requires fragments { AreFragments self.opening.fragments }
+        requires { IsRecordCounted self }
         ensures { result ≡ record_ask request self }
     {
         match request {

@@ -1,4 +1,4 @@
-use Rattle.std.proofs.Common.{length, length-take, refl, sym, ap, ◌∙◌, subst, arith}
+use Rattle.std.proofs.Common.{rules, length, length-take, refl, sym, ap, ◌∙◌, subst, arith}
 use Rattle.pcm_oss.proofs.Limits.{least-ring}
 use Rattle.pcm_feeder.specs.Limits.{IsRate}
 use Rattle.pcm_rate.specs.Rates.{IsRatio}
@@ -16,12 +16,12 @@ use Rattle.pcm_map.proofs.Held.{running-held}
 use Rattle.pcm_map.proofs.Pieces.{piece-gives, pulls-piece, ring-again, ring-empty, ring-filled}
 use Rattle.pcm_map.proofs.channel.MapChannelOf.give_piece.Goals as goal
 
-pub refilled-book-requires-clause-eaten : goal.refilled-book-requires-clause-eaten
-refilled-book-requires-clause-eaten g c =
+pub refilled-book-requires : goal.refilled-book-requires
+refilled-book-requires g c =
     let old = c.args.self.now in
     let planned = c.requires.ready.planned (running-held c.args.self.now.book.state c.requires.running) in
     let fits = next-fits c.args.tables.now c.args.n old c.rate.result (c.rate.ensures.value ∙ ap (λ (p : PlanSeen). rate_in_plan p) c.plan.ensures ∙ planned-rate c.args.tables.now old planned) c.requires.count in
-    omega (arith, fits)
+    record { ratio = search rules; given = search rules; eaten = omega (arith, fits) }
 
 pub overflow_sub-count : goal.overflow_sub-count
 overflow_sub-count g c =

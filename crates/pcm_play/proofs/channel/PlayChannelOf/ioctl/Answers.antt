@@ -1,4 +1,4 @@
-use Rattle.std.proofs.Common.{◌≡◌, ap, sym, subst, ◌∙◌, length, refl}
+use Rattle.std.proofs.Common.{rules, ◌≡◌, ap, sym, subst, ◌∙◌, length, refl}
 use Rattle.pcm_format.specs.Frames.{frame_bytes}
 use Rattle.pcm_path.proofs.Paths.{serves-as}
 use Rattle.pcm_plan.specs.Plans.{PlanSeen, rate_in_plan}
@@ -13,12 +13,14 @@ use Rattle.pcm_play.proofs.Moving.{asked-here, asked-is, book-asked, moves-ended
 use Rattle.pcm_desk.proofs.Ratios.{device-is}
 use Rattle.pcm_play.proofs.channel.PlayChannelOf.ioctl.Goals as goal
 
-pub asked-turn-requires-clause-at : goal.asked-turn-requires-clause-at
-asked-turn-requires-clause-at g c =
-    asked-here c.args.tables.now c.args.here c.args.self.now c.rate-rate.result c.plan.result.now c.requires.planned c.rate-rate.ensures.value c.plan.ensures c.requires.at
-
-pub asked-turn-requires-clause-mix : goal.asked-turn-requires-clause-mix
-asked-turn-requires-clause-mix g c = c.args.self.now.serves.device.mix_rate
+pub asked-turn-requires-clause-delay : goal.asked-turn-requires-clause-delay
+asked-turn-requires-clause-delay g c = record {
+  ratio = search rules;
+  client = search rules;
+  mix = c.args.self.now.serves.device.mix_rate;
+  place = c.requires.here;
+  at = asked-here c.args.tables.now c.args.here c.args.self.now c.rate-rate.result c.plan.result.now c.requires.planned c.rate-rate.ensures.value c.plan.ensures c.requires.at;
+}
 
 pub begin-requires : goal.begin-requires
 begin-requires g c =
