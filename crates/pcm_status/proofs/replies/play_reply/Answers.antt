@@ -1,4 +1,5 @@
-use Rattle.std.proofs.Common.{ap, ◌∙◌}
+use Rattle.std.proofs.Common.{rules, ap, arith, ◌∙◌}
+use Rattle.std.proofs.lemmas.Grind.{common_steps}
 use Rattle.pcm_rate.specs.declared.rate.Rate.{Rate}
 use Rattle.pcm_desk.specs.declared.device.Device.{Device}
 use Rattle.pcm_desk.specs.declared.here.Here.{Here}
@@ -10,6 +11,9 @@ use Rattle.pcm_desk.specs.Desk.{desk_here, play_at}
 use Rattle.pcm_desk.specs.PlayRequests.{play_ask}
 use Rattle.pcm_engine.specs.Engines.{desk_of, device_of}
 use Rattle.pcm_status.proofs.replies.play_reply.Goals as goal
+
+pub asked-requires-clause-delay : goal.asked-requires-clause-delay
+asked-requires-clause-delay g c = record { ratio = search rules; client = search rules; mix = search rules; place = search rules; at = grind (arith, common_steps) }
 
 pub returns : goal.returns
 returns g c =
