@@ -44,10 +44,9 @@ channel-after device desk event mine P same turns begins starts = at event turns
     own : (event : Event) → P (own_turn device desk.handed (grouping_at device desk mine) event (channel_at device desk mine)).book → P (channel_at device (channel_turn device desk event (Some mine)).desk mine)
     own event t =
         let old : Channel = channel_at device desk mine in
-        elim (at-either device desk mine (own_turn device desk.handed (grouping_at device desk mine) event old).book (turn-way device desk.handed (grouping_at device desk mine) event old ∙ way-at device desk mine)) [
-          | inl put ↦ subst P (sym put) t
-          | inr kept ↦ subst P (sym kept) same
-        ]
+        let new : Channel = (own_turn device desk.handed (grouping_at device desk mine) event old).book in
+        let either = at-either device desk mine new (turn-way device desk.handed (grouping_at device desk mine) event old ∙ way-at device desk mine) in
+        elim either [ inl put ↦ subst P (sym put) t | inr kept ↦ subst P (sym kept) same ]
 
     -- an event of a descriptor
     named : (event : Event) (found : Option Held) → P (own_turn device desk.handed (grouping_at device desk mine) event (channel_at device desk mine)).book → P (channel_at device (channel_turn device desk event found).desk mine)

@@ -66,6 +66,11 @@ passed_waits device handed n (Playing book) w =
     subst (λ (b : PlayBook). Waits (Playing (settling device (handed + n) b))) (sym same) (subst (λ (b : PlayBook). Waits (Playing b)) (sym (settling_waits device (handed + n) book w.0)) w)
 passed_waits device handed n channel w = grind arith
 
+-- a request, which is refused where groups have a part in it, or leaves a group
+requested_waits : (device : DeviceSeen) (request : Request) (held : Held) (desk new : Desk) → new.groups ≡ left_by request held desk.groups → (is_member desk held ≡ true → Waits (channel_at device desk held)) → is_member new held ≡ true
+    → Waits (own_request device (here_at device desk.handed) request (member_refusal (is_member desk held) request) (channel_at device desk held)).book
+requested_waits device request held desk new is waits member = grind (arith, group-left, asked_waits)
+
 -- what it leaves of a member, where that is a member still
 own_waits : (device : DeviceSeen) (event : Event) (held : Held) (desk new : Desk) → descriptor_of event ≢ None → new.groups ≡ groups_after event held (grouping_at device desk held) desk.groups → MembersWait device desk → is_member new held ≡ true
     → Waits (own_turn device desk.handed (grouping_at device desk held) event (channel_at device desk held)).book
@@ -83,19 +88,12 @@ own_waits device event held desk new own is waits member = at event own is
     joining_by (Ok number) true r same = joined_waits device new (here_at device desk.handed) held.slot number (channel_at device desk held) r (ap (λ (way : Way). is_member new (channel_named way held.slot)) (way-at device desk held) ∙ member)
     joining_by (Ok number) false r same = old (sym same)
 
-    requested_by : (request : Request) (b : Bool) → is_member desk held ≡ b → new.groups ≡ left_by request held desk.groups → Waits (own_request device (here_at device desk.handed) request (member_refusal b request) (channel_at device desk held)).book
-    requested_by Sync b m same = absurd (gone same)
-    requested_by (SetTrigger bits) true m same = old (sym same)
-    requested_by (SetTrigger bits) false m same = absurd (let clash : false ≡ true = sym m ∙ ap (λ (g : Groups). nat_lt 0 (group_of (record desk { groups = g }) held)) (sym same) ∙ member in cc)
-    requested_by request true m same = asked_waits device (here_at device desk.handed) request (channel_at device desk held) tt (old (sym same))
-    requested_by request false m same = asked_waits device (here_at device desk.handed) request (channel_at device desk held) tt (old (sym same))
-
     at : (event : Event) → descriptor_of event ≢ None → new.groups ≡ groups_after event held (grouping_at device desk held) desk.groups → Waits (own_turn device desk.handed (grouping_at device desk held) event (channel_at device desk held)).book
     at (Open fd way settings) own same = old (sym same)
     at (Write fd source from count) own same = wrote_waits (here_at device desk.handed) count (channel_at device desk held) (old (sym same))
     at (Poke fd offset from count) own same = poked_waits offset count (channel_at device desk held) (old (sym same))
     at (Read fd count) own same = read_waits count (channel_at device desk held) (old (sym same))
-    at (Ioctl fd request) own same = requested_by request (is_member desk held) refl same
+    at (Ioctl fd request) own same = requested_waits device request held desk new same (waits held) member
     at (Join fd group) own same = joining_by (joining desk.groups held.way held.slot group) (rests (channel_at device desk held)) refl same
     at (Close fd) own same = absurd (gone same)
     at _ own same = absurd (own refl)

@@ -1,5 +1,5 @@
 -- The replies to a client along a list of events depend on its own events alone.
-use Rattle.std.proofs.Common.{◌≡◌, ◌≢◌, ℕ, ◌+◌, ◌<◌, Bool, true, false, cond, List, [], ◌∷◌, Option, Some, None, ◌⊎◌, inl, inr, Result, Ok, Err, refl, sym, ap, ◌∙◌, subst, arith}
+use Rattle.std.proofs.Common.{◌≡◌, ◌≢◌, ℕ, ◌<◌, Bool, true, false, cond, List, [], ◌∷◌, Option, Some, None, ◌⊎◌, inl, inr, Result, Ok, Err, refl, sym, ap, ◌∙◌, subst, arith}
 use Rattle.std.specs.Prelude.{All, IsErr, nat_lt}
 use Rattle.std.proofs.lemmas.Bool.{cases_eq}
 use Rattle.std.proofs.lemmas.Bool.Decides.{nat_tests}
@@ -40,14 +40,10 @@ unnamed_taken event = grind arith
 
 -- the replies from an event on are the same where it has no descriptor's number
 unnamed_replies : (device : DeviceSeen) (handed : ℕ) (event : Event) (channel : Channel) (more : List Event) → own_replies device handed channel (unnamed event ∷ more) ≡ own_replies device handed channel (event ∷ more)
-unnamed_replies device handed event channel more =
-    ap (λ (t : Turn Channel). t.reply ∷ own_replies device (handed + frames_taken (unnamed event)) t.book more) (unnamed_same device handed event channel)
-    ∙ ap (λ (k : ℕ). (own_turn device handed ungrouped event channel).reply ∷ own_replies device (handed + k) (own_turn device handed ungrouped event channel).book more) (unnamed_taken event)
+unnamed_replies device handed event channel more = cc (unnamed_same device handed event channel, unnamed_taken event)
 
 unnamed_after : (device : DeviceSeen) (handed : ℕ) (event : Event) (channel : Channel) (more : List Event) → own_after device handed channel (unnamed event ∷ more) ≡ own_after device handed channel (event ∷ more)
-unnamed_after device handed event channel more =
-    ap (λ (t : Turn Channel). own_after device (handed + frames_taken (unnamed event)) t.book more) (unnamed_same device handed event channel)
-    ∙ ap (λ (k : ℕ). own_after device (handed + k) (own_turn device handed ungrouped event channel).book more) (unnamed_taken event)
+unnamed_after device handed event channel more = cc (unnamed_same device handed event channel, unnamed_taken event)
 
 -- an event of another takes no frames
 others_take : (event : Event) (fd : ℕ) → concerns fd event ≡ false → frames_taken event ≡ 0
@@ -206,22 +202,19 @@ replies_step : (device : DeviceSeen) (event : Event) (events : List Event) (desk
     ≡ own_replies device desk.handed (channel_at device desk held) (cond own (unnamed event ∷ cond closing [] (own_events fd events)) (own_events fd events))
 replies_step device event events desk fd held true true o c h m a joined rest =
     let told = mine-turns device event desk fd held o h m a in
-    ap (λ (r : Result Answer Errno). r ∷ []) told.reply ∙ sym (unnamed_replies device desk.handed event (channel_at device desk held) [])
+    let same = unnamed_replies device desk.handed event (channel_at device desk held) [] in
+    cc
 replies_step device event events desk fd held true false o c h m a joined rest =
     let told = mine-turns device event desk fd held o h m a in
-    let new : Desk = (after device desk event).desk in
-    let more : List Event = own_events fd events in
-    let channel : Channel = channel_at device desk held in
-    let turn : Turn Channel = own_turn device desk.handed ungrouped event channel in
-    ap (λ (r : Result Answer Errno). r ∷ replies_to device fd new events) told.reply
-    ∙ ap (λ (list : List (Result Answer Errno)). turn.reply ∷ list)
-    (rest c (told.holds c) told.alone ∙ ap (λ (c : Channel). own_replies device new.handed c more) told.channel ∙ ap (λ (k : ℕ). own_replies device k turn.book more) (handed-taken device desk event))
-    ∙ sym (unnamed_replies device desk.handed event channel more)
+    let more = rest c (told.holds c) told.alone in
+    let taken = handed-taken device desk event in
+    let same = unnamed_replies device desk.handed event (channel_at device desk held) (own_events fd events) in
+    cc
 replies_step device event events desk fd held false closing o c h m a joined rest =
     let theirs = other-stays device event desk fd held o joined h m a in
-    let new : Desk = (after device desk event).desk in
-    rest (others-go event fd o) theirs.holds theirs.alone ∙ ap (λ (c : Channel). own_replies device new.handed c (own_events fd events)) theirs.channel
-    ∙ ap (λ (k : ℕ). own_replies device k (channel_at device desk held) (own_events fd events)) (handed_stays device desk event fd o)
+    let more = rest (others-go event fd o) theirs.holds theirs.alone in
+    let stays = handed_stays device desk event fd o in
+    cc
 
 -- The replies to the client of a descriptor are what its book and its own events say, as long as it joins no group.
 pub replies-own : (device : DeviceSeen) (desk : Desk) (fd : ℕ) (held : Held) (events : List Event) → HoldApart desk → held_by desk fd ≡ Some held → is_member desk held ≡ false → JoinsNone device fd desk events
@@ -245,25 +238,15 @@ after_step : (device : DeviceSeen) (event : Event) (events : List Event) (desk :
 after_step device event events desk fd held own true o c goes h m a joined rest = cc
 after_step device event events desk fd held true false o c goes h m a joined rest =
     let told = mine-turns device event desk fd held o h m a in
-    let new : Desk = (after device desk event).desk in
-    let more : List Event = own_events fd events in
-    let channel : Channel = channel_at device desk held in
     let is = rest (told.holds c) told.alone in
-    record {
-      holds = is.holds;
-      book = is.book ∙ ap (λ (c : Channel). own_after device new.handed c more) told.channel
-          ∙ ap (λ (k : ℕ). own_after device k (own_turn device desk.handed ungrouped event channel).book more) (handed-taken device desk event)
-          ∙ sym (unnamed_after device desk.handed event channel more);
-    }
+    let taken = handed-taken device desk event in
+    let same = unnamed_after device desk.handed event (channel_at device desk held) (own_events fd events) in
+    record { holds = is.holds; book = cc }
 after_step device event events desk fd held false false o c goes h m a joined rest =
     let theirs = other-stays device event desk fd held o joined h m a in
-    let new : Desk = (after device desk event).desk in
     let is = rest theirs.holds theirs.alone in
-    record {
-      holds = is.holds;
-      book = is.book ∙ ap (λ (c : Channel). own_after device new.handed c (own_events fd events)) theirs.channel
-          ∙ ap (λ (k : ℕ). own_after device k (channel_at device desk held) (own_events fd events)) (handed_stays device desk event fd o);
-    }
+    let stays = handed_stays device desk event fd o in
+    record { holds = is.holds; book = cc }
 
 after_own : (device : DeviceSeen) (desk : Desk) (fd : ℕ) (held : Held) (events : List Event) → HoldApart desk → held_by desk fd ≡ Some held → IsAlone desk held → JoinsNone device fd desk events → All (λ (event : Event). closes fd event ≡ false) events
     → IsAfter device fd held (after_all device desk events) (own_after device desk.handed (channel_at device desk held) (own_events fd events))
@@ -311,9 +294,7 @@ book-own device desk fd held events h m a none goes = (after_own device desk fd 
 
 -- the book that an opening begins with
 pub begun-own : (device : DeviceSeen) (fd : ℕ) (way : Way) (settings : Settings) (held : Held) (old new : Desk) → Opens device fd way settings held old new → channel_at device new held ≡ channel_begun way settings
-begun-own device fd way settings held old new o =
-    subst (λ (d : Desk). channel_at device d held ≡ channel_begun way settings) (sym o.is)
-    (opened-begins device old fd way settings held o.shut (ap (λ (d : Desk). held_by d fd) (sym o.is) ∙ o.holds))
+begun-own device fd way settings held old new o = let begins = opened-begins device old fd way settings held o.shut (ap (λ (d : Desk). held_by d fd) (sym o.is) ∙ o.holds) in rw o.is begins
 
 apart_opened : (device : DeviceSeen) (fd : ℕ) (way : Way) (settings : Settings) (held : Held) (old new : Desk) → HoldApart old → Opens device fd way settings held old new → HoldApart new
 apart_opened device fd way settings held old new h o = subst HoldApart (sym o.is) (apart-after device old (Open fd way settings) h)
@@ -337,26 +318,21 @@ opened-none device fd way settings held old new w o = alone_is (group_of new hel
 opening_told : (device : DeviceSeen) (fd : ℕ) (way : Way) (settings : Settings) (held : Held) (old new : Desk) (events : List Event) → HoldApart old → MembersWait device old → Opens device fd way settings held old new → JoinsNone device fd new events
     → replies_to device fd new events ≡ own_replies device old.handed (channel_begun way settings) (own_events fd events)
 opening_told device fd way settings held old new events h w o none =
-    replies-own device new fd held events (apart_opened device fd way settings held old new h o) o.holds (alone_opened device fd way settings held old new w o) none
-    ∙ ap (λ (c : Channel). own_replies device new.handed c (own_events fd events)) (begun-own device fd way settings held old new o)
-    ∙ ap (λ (k : ℕ). own_replies device k (channel_begun way settings) (own_events fd events)) (handed_opened device fd way settings held old new o)
+    let told = replies-own device new fd held events (apart_opened device fd way settings held old new h o) o.holds (alone_opened device fd way settings held old new w o) none in
+    cc (told, begun-own device fd way settings held old new o, handed_opened device fd way settings held old new o)
 
 -- Two openings with the same settings and the same own events get the same replies, where the device had been given as many frames before.
 pub alike-told : (device : DeviceSeen) (fd at : ℕ) (way : Way) (settings : Settings) (held theirs : Held) (one new other anew : Desk) (events others : List Event) → HoldApart one → HoldApart other → MembersWait device one → MembersWait device other → one.handed ≡ other.handed
     → Opens device fd way settings held one new → Opens device at way settings theirs other anew → JoinsNone device fd new events → JoinsNone device at anew others → own_events fd events ≡ own_events at others
     → replies_to device fd new events ≡ replies_to device at anew others
 alike-told device fd at way settings held theirs one new other anew events others h k w v level o p none never same =
-    opening_told device fd way settings held one new events h w o none
-    ∙ ap (λ (k : ℕ). own_replies device k (channel_begun way settings) (own_events fd events)) level
-    ∙ ap (own_replies device other.handed (channel_begun way settings)) same
-    ∙ sym (opening_told device at way settings theirs other anew others k v p never)
+    cc (opening_told device fd way settings held one new events h w o none, opening_told device at way settings theirs other anew others k v p never)
 
 opening_book : (device : DeviceSeen) (fd : ℕ) (way : Way) (settings : Settings) (held : Held) (old new : Desk) (events : List Event) → HoldApart old → MembersWait device old → Opens device fd way settings held old new → JoinsNone device fd new events → All (λ (event : Event). closes fd event ≡ false) events
     → channel_at device (after_all device new events) held ≡ own_after device old.handed (channel_begun way settings) (own_events fd events)
 opening_book device fd way settings held old new events h w o none goes =
-    book-own device new fd held events (apart_opened device fd way settings held old new h o) o.holds (alone_opened device fd way settings held old new w o) none goes
-    ∙ ap (λ (c : Channel). own_after device new.handed c (own_events fd events)) (begun-own device fd way settings held old new o)
-    ∙ ap (λ (k : ℕ). own_after device k (channel_begun way settings) (own_events fd events)) (handed_opened device fd way settings held old new o)
+    let book = book-own device new fd held events (apart_opened device fd way settings held old new h o) o.holds (alone_opened device fd way settings held old new w o) none goes in
+    cc (book, begun-own device fd way settings held old new o, handed_opened device fd way settings held old new o)
 
 -- and their books are equal, as long as neither is closed
 pub alike-books : (device : DeviceSeen) (fd at : ℕ) (way : Way) (settings : Settings) (held theirs : Held) (one new other anew : Desk) (events others : List Event) → HoldApart one → HoldApart other → MembersWait device one → MembersWait device other → one.handed ≡ other.handed
@@ -364,7 +340,4 @@ pub alike-books : (device : DeviceSeen) (fd at : ℕ) (way : Way) (settings : Se
     → own_events fd events ≡ own_events at others
     → channel_at device (after_all device new events) held ≡ channel_at device (after_all device anew others) theirs
 alike-books device fd at way settings held theirs one new other anew events others h k w v level o p none never goes still same =
-    opening_book device fd way settings held one new events h w o none goes
-    ∙ ap (λ (k : ℕ). own_after device k (channel_begun way settings) (own_events fd events)) level
-    ∙ ap (own_after device other.handed (channel_begun way settings)) same
-    ∙ sym (opening_book device at way settings theirs other anew others k v p never still)
+    cc (opening_book device fd way settings held one new events h w o none goes, opening_book device at way settings theirs other anew others k v p never still)

@@ -1,5 +1,5 @@
 -- Where the mix and the device can be, however many frames the device has been given.
-use Rattle.std.proofs.Common.{◌≡◌, ℕ, ℤ, pos, negsuc, zero, suc, ◌+◌, ◌-◌, ◌*◌, ◌/◌, ◌^◌, ◌<◌, ◌≤◌, ◌⊎◌, inl, inr, refl, sym, ap, ◌∙◌, subst, arith, w64, FitsSigned}
+use Rattle.std.proofs.Common.{◌≡◌, ℕ, ℤ, pos, negsuc, zero, suc, ◌+◌, ◌-◌, ◌*◌, ◌/◌, ◌^◌, ◌<◌, ◌≤◌, ◌⊎◌, inl, inr, sym, ap, ◌∙◌, subst, arith, w64, FitsSigned}
 use mir.Syntax.{w128}
 use Rattle.std.specs.Prelude.{◌==◌, ◌≤ℤ◌, ◌+ℤ◌, ◌-ℤ◌, ◌*ℤ◌}
 use Rattle.std.proofs.lemmas.Int.{ints}
@@ -29,32 +29,18 @@ lasting device frames = frames * (mix_settings device).rate / (device_settings d
 
 -- once the device has been given as many frames as its ring holds, those of the mix count that last as long as the rest
 passed-past : (device : DeviceSeen) (handed : ℕ) → ring_frames device ≤ handed → passed_for device handed ≡ pos (lasting device (handed - ring_frames device))
-passed-past device handed past =
-    let gap : (pos handed -ℤ pos (ring_frames device)) ≡ pos (handed - ring_frames device) = omega (arith, ints) in
-    ap (λ z. floor_div (z *ℤ pos (mix_settings device).rate) (device_settings device).rate) gap
-
-product-below : (k m : ℕ) → 0 < k * m → ((pos 0 -ℤ pos k) *ℤ pos m) ≡ negsuc (k * m - 1)
-product-below zero m some = absurd (omega arith)
-product-below (suc j) m some =
-    let gap : (pos 0 -ℤ pos (suc j)) ≡ negsuc j = omega (arith, ints) in
-    ap (λ z. z *ℤ pos m) gap ∙ omega (arith, ints, some)
+passed-past device handed past = grind (arith, ints)
 
 -- before, those that are still to leave, rounded up, are below 0
 passed-before : (device : DeviceSeen) (handed : ℕ) → handed < ring_frames device → 0 < (mix_settings device).rate
     → passed_for device handed ≡ negsuc (((ring_frames device - handed) * (mix_settings device).rate - 1) / (device_settings device).rate)
-passed-before device handed before above =
-    let m = (mix_settings device).rate in
-    let k = ring_frames device - handed in
-    let least = mul-le-mul_right {m = 1} {n = k} m (omega arith) in
-    let gap : (pos handed -ℤ pos (ring_frames device)) ≡ (pos 0 -ℤ pos k) = omega (arith, ints) in
-    ap (λ z. floor_div (z *ℤ pos m) (device_settings device).rate) gap ∙ ap (λ z. floor_div z (device_settings device).rate) (product-below k m (omega (arith, least)))
+passed-before device handed before above = grind (arith, ints)
 
 -- ---- how they are divided
 
 -- a quotient that leaves a rest from 0 on is rounded down
 pub euclid-floor : (z : ℤ) (d : ℕ) → int_div_euclid z (pos d) ≡ floor_div z d
-euclid-floor (pos n) d = refl
-euclid-floor (negsuc n) d = refl
+euclid-floor z d = grind arith
 
 fits-below : (z : ℤ) (k : ℕ) → k < 2 ^ 100 → (z ≡ pos k) ⊎ (z ≡ (pos 0 -ℤ pos k)) → FitsSigned w128 z
 fits-below (pos n) k few is = record { sfits = elim is [ inl up ↦ omega (arith, ints, up, few) | inr down ↦ omega (arith, ints, down, few) ] }

@@ -15,8 +15,7 @@ use Rattle.pcm_desk.specs.PlayBooks.{drained_in, is_draining, is_play_setup, pla
 use Rattle.pcm_desk.specs.Openings as openings
 use Rattle.pcm_desk.specs.PlayRequests.{has_play_bit, play_ask, play_with_opening, play_roused_in, play_stopped_in, play_triggered, play_with_trigger, set_volume}
 use Rattle.pcm_desk.specs.BookTurns.{doing, refused}
-use Rattle.pcm_desk.proofs.Openings as settings
-use Rattle.pcm_desk.proofs.Openings.{Setting, Staying, Sets, opening-ask-does}
+use Rattle.pcm_desk.proofs.Openings.{Sets, opening-ask-does}
 
 -- the book with a last answered position, a volume and a count of shortages
 abbrev pub noting : ℕ → ℕ → ℕ → PlayBook → PlayBook
@@ -40,17 +39,12 @@ untouched : (rate : Rate) (here : Here) (request : Request) (book : PlayBook) �
 untouched rate here request book = Noting book.opening.told book.volume book.underruns (record { told_is = inl refl; volume_is = λ v. v }) refl
 
 -- what is asked of every opening
-common : (rate : Rate) (here : Here) (request : Request) (book : PlayBook) (opening : Opening) → settings.Does (is_play_setup book.state) book.opening opening → Does rate here request book (record book { opening = opening })
-common rate here request book opening d =
-    elim d [
-      | Staying is ↦ rw is (untouched rate here request book)
-      | Setting setup sets ↦ SettingUp opening setup sets refl
-    ]
-
 common_ask : (rate : Rate) (here : Here) (request : Request) (book : PlayBook) → Does rate here request book (record book { opening = (openings.ask (is_play_setup book.state) PLAY_BIT request book.opening).book })
 common_ask rate here request book =
-    let asked = (openings.ask (is_play_setup book.state) PLAY_BIT request book.opening).book in
-    common rate here request book asked (opening-ask-does (is_play_setup book.state) PLAY_BIT request book.opening)
+    elim (opening-ask-does (is_play_setup book.state) PLAY_BIT request book.opening) [
+      | inl is ↦ rw is (untouched rate here request book)
+      | inr sets ↦ SettingUp (openings.ask (is_play_setup book.state) PLAY_BIT request book.opening).book sets.0 sets.1 refl
+    ]
 
 volume_in : (b : Bool) (volume : ℕ) (rate : Rate) (here : Here) (request : Request) (book : PlayBook) → is_volume volume ≡ b → Does rate here request book (set_volume volume book).book
 volume_in true volume rate here request book e = rw e (Noting book.opening.told volume book.underruns (record { told_is = inl refl; volume_is = λ v. e }) refl)

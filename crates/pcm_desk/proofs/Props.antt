@@ -4,7 +4,7 @@ use Rattle.std.proofs.Props.{props}
 use Rattle.pcm_rate.specs.declared.rate.Rate.{Rate}
 use Rattle.pcm_desk.specs.declared.play_book.PlayBook.{PlayBook}
 use Rattle.pcm_desk.specs.declared.play_book.PlayState.{PlayState}
-use Rattle.pcm_desk.specs.declared.play_book.PlayState.TheVariants.{Free, Setup, Primed, Running, Draining}
+use Rattle.pcm_desk.specs.declared.play_book.PlayState.TheVariants.{Free}
 use Rattle.pcm_desk.specs.declared.record_book.RecordBook.{RecordBook}
 use Rattle.pcm_desk.specs.declared.run_state.RunState.{RunState}
 use Rattle.pcm_desk.specs.declared.run_state.RunState.TheVariants as run_states
@@ -17,39 +17,28 @@ use Rattle.pcm_desk.specs.RecordSafe.{IsRecordInOrder, RecordIsSafe}
 
 pub IsInOrder-prop : (rate : Rate) (state : PlayState) (book : PlayBook) → IsProp (IsPlayInOrder rate state book)
 IsInOrder-prop rate Free book = Prim.hlevel props
-IsInOrder-prop rate Setup book = Prim.hlevel props
-IsInOrder-prop rate Primed book = Prim.hlevel props
-IsInOrder-prop rate Running book = Prim.hlevel props
-IsInOrder-prop rate (Draining closed) book = Prim.hlevel props
-
-pub ruleset order_props = (IsInOrder-prop, props)
+IsInOrder-prop rate state book = Prim.hlevel props
 
 pub PlayIsSafe-prop : (rate : Rate) (book : PlayBook) → IsProp (PlayIsSafe rate book)
-PlayIsSafe-prop rate book = Prim.hlevel order_props
+PlayIsSafe-prop rate book = Prim.hlevel (IsInOrder-prop, props)
 
 pub ruleset book_props = (PlayIsSafe-prop, props)
 
 pub record-IsInOrder-prop : (state : RunState) (book : RecordBook) → IsProp (IsRecordInOrder state book)
-record-IsInOrder-prop run_states.Free book = Prim.hlevel props
-record-IsInOrder-prop run_states.Setup book = Prim.hlevel props
 record-IsInOrder-prop run_states.Running book = Prim.hlevel props
-
-pub ruleset record_order_props = (record-IsInOrder-prop, props)
+record-IsInOrder-prop state book = Prim.hlevel props
 
 pub RecordIsSafe-prop : (rate : Rate) (book : RecordBook) → IsProp (RecordIsSafe rate book)
-RecordIsSafe-prop rate book = Prim.hlevel record_order_props
+RecordIsSafe-prop rate book = Prim.hlevel (record-IsInOrder-prop, props)
 
 pub ruleset record_props = (RecordIsSafe-prop, props)
 
 pub map-IsInOrder-prop : (state : RunState) (book : MapBook) → IsProp (IsMapInOrder state book)
-map-IsInOrder-prop run_states.Free book = Prim.hlevel props
-map-IsInOrder-prop run_states.Setup book = Prim.hlevel props
 map-IsInOrder-prop run_states.Running book = Prim.hlevel props
-
-pub ruleset map_order_props = (map-IsInOrder-prop, props)
+map-IsInOrder-prop state book = Prim.hlevel props
 
 pub MapIsSafe-prop : (rate : Rate) (book : MapBook) → IsProp (MapIsSafe rate book)
-MapIsSafe-prop rate book = Prim.hlevel map_order_props
+MapIsSafe-prop rate book = Prim.hlevel (map-IsInOrder-prop, props)
 
 pub ruleset map_props = (MapIsSafe-prop, props)
 

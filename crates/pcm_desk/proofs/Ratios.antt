@@ -1,17 +1,16 @@
 -- The plans between a client and the device fit, whatever rate the client has.
-use Rattle.std.proofs.Common.{◌≡◌, ◌≢◌, ◌≤◌, ◌<◌, ◌+◌, ◌*◌, ◌/◌, ◌==◌, ℕ, List, [], ◌∷◌, inl, inr, sym, ap, ◌∙◌, subst, arith}
+use Rattle.std.proofs.Common.{◌≡◌, ◌≢◌, ◌≤◌, ◌<◌, ◌+◌, ◌*◌, ◌/◌, ◌==◌, ℕ, List, [], ◌∷◌, sym, ap, ◌∙◌, subst, arith}
 use Rattle.std.specs.Prelude.{All}
 use Rattle.std.proofs.Math.Nat.{mul-le-mul_right}
-use Rattle.std.proofs.lemmas.Bool.{cases_lt, cond_both, eqb-false, eqb-true}
+use Rattle.std.proofs.lemmas.Bool.{cond_both, eqb-false, eqb-true}
 use Rattle.std.proofs.lemmas.List.Elements.{All-head, All-tail}
 use Rattle.pcm_format.specs.Formats.{bits_of}
 use Rattle.pcm_format.specs.Frames.{Frame}
 use Rattle.pcm_format.specs.declared.settings.Settings.{Settings}
 use Rattle.pcm_rate.specs.declared.rate.Rate.{Rate}
-use Rattle.pcm_rate.specs.Rates.{IsRatio, can, len, need}
+use Rattle.pcm_rate.specs.Rates.{IsRatio, can, need}
 use Rattle.pcm_rate.proofs.Counts.{below_div_up, can-le-len, div_grows, need-apart, need-unchanged, need_grows}
 use Rattle.pcm_feeder.specs.declared.stage.Spec.{Spec}
-use Rattle.pcm_feeder.specs.declared.stage.Spec.TheVariants.{Matrix, Hold, Linear, Poly, Volume, Depth, Eq}
 use Rattle.pcm_feeder.specs.Filters.{Filters}
 use Rattle.pcm_feeder.specs.Limits.{AreFilters, IsRate, IsSpec}
 use Rattle.pcm_plan.specs.Fits.{HaveBits, IsPlan, HaveTables}
@@ -126,31 +125,19 @@ record IsFew (rate : Rate) : Type 0 where
 
 -- so is that of stages within their limits
 few-among : (specs : List Spec) → All IsSpec specs → IsFew (rate_among specs)
-few-among [] all = record { src = omega arith; dst = omega arith }
-few-among (Matrix from to ∷ specs) all = few-among specs (All-tail IsSpec (Matrix from to) specs all)
-few-among (Hold src dst channels ∷ specs) all =
-    let is = All-head IsSpec (Hold src dst channels) specs all in
-    record { src = omega (arith, is.source.least); dst = omega (arith, is.source.least, is.target.most) }
-few-among (Linear src dst channels ∷ specs) all =
-    let is = All-head IsSpec (Linear src dst channels) specs all in
-    record { src = omega (arith, is.source.least); dst = omega (arith, is.source.least, is.target.most) }
-few-among (Poly src dst channels table taps ∷ specs) all =
-    let is = All-head IsSpec (Poly src dst channels table taps) specs all in
-    record { src = omega (arith, is.change.source.least); dst = omega (arith, is.change.source.least, is.change.target.most) }
-few-among (Volume layout ∷ specs) all = few-among specs (All-tail IsSpec (Volume layout) specs all)
-few-among (Depth bits channels ∷ specs) all = few-among specs (All-tail IsSpec (Depth bits channels) specs all)
-few-among (Eq channels sections ∷ specs) all = few-among specs (All-tail IsSpec (Eq channels sections) specs all)
+few-among [] all = grind arith
+few-among (spec ∷ specs) all =
+    let first = All-head IsSpec spec specs all in
+    let rest = few-among specs (All-tail IsSpec spec specs all) in
+    grind arith
 
 -- n frames allow at most 48 times as many
 few-can : (rate : Rate) (n : ℕ) → IsFew rate → can rate n ≤ 48 * n
 few-can rate n few =
-    elim (cases_lt (48 * n) (len rate n)) [
-      | inl more ↦ absurd (
-          let up = (below_div_up (48 * n) (n * rate.dst) rate.src few.src).0 more in
-          let most = mul-le-mul_right {m = rate.dst} {n = 48 * rate.src} n few.dst in
-          omega (arith, up, most))
-      | inr within ↦ (let least = can-le-len rate n few.src in omega (arith, least, within))
-    ]
+    let least = can-le-len rate n few.src in
+    let up = below_div_up (48 * n) (n * rate.dst) rate.src few.src in
+    let most = mul-le-mul_right {m = rate.dst} {n = 48 * rate.src} n few.dst in
+    grind arith
 
 -- at most 48 frames of a client that records come of each frame of the device, since both rates are within their limits
 pub record-few : (device : DeviceSeen) (settings : Settings) (n : ℕ) → IsDevice device → IsRate settings.rate → can (record_rate_between device settings) n ≤ 48 * n

@@ -1,13 +1,13 @@
 -- A device that gets what is mixed as it is: it is given as many frames as are mixed, and the same ones.
-use Rattle.std.proofs.Common.{◌≡◌, ◌==◌, ◌&&◌, ◌<◌, ◌≤◌, ◌+◌, ◌-◌, ℕ, ℤ, pos, negsuc, true, nat_le, List, [], ◌∷◌, ◌++◌, length, map, take, drop, get_or, All, refl, sym, ap, ◌∙◌, arith}
+use Rattle.std.proofs.Common.{◌≡◌, ◌==◌, ◌<◌, ◌≤◌, ◌+◌, ◌-◌, ℕ, ℤ, pos, true, List, [], ◌∷◌, ◌++◌, length, map, take, drop, get_or, All, refl, sym, ap, ◌∙◌, arith}
 use Rattle.std.specs.List.{range_with_len}
-use Rattle.std.proofs.lemmas.Bool.{and_parts, cond-true, cond_both, eqb-true}
+use Rattle.std.proofs.lemmas.Bool.Decides.{nat_tests}
+use Rattle.std.proofs.lemmas.Bool.{cond_both, eqb-true}
 use Rattle.std.proofs.lemmas.Int.{ints}
 use Rattle.std.proofs.lemmas.List.{get_or-append-add, get_or-drop, get_or-map, get_or-take, length-drop, length-take}
 use Rattle.std.proofs.lemmas.List.Elements.{All-same}
 use Rattle.std.proofs.lemmas.List.FromFn.{fill_by_all, length-map-range_with_len}
 use Rattle.pcm_num.proofs.Floors.{floor_div-mul_pow}
-use Rattle.pcm_format.specs.declared.settings.Settings.{Settings}
 use Rattle.pcm_format.specs.Formats.{bits_of}
 use Rattle.pcm_format.specs.Frames.{Frame}
 use Rattle.pcm_format.specs.Layouts.{channels_of}
@@ -17,12 +17,12 @@ use Rattle.pcm_rate.specs.declared.rate.Rate.{Rate}
 use Rattle.pcm_rate.specs.Rates.{need}
 use Rattle.pcm_rate.proofs.Counts.{need-unchanged}
 use Rattle.pcm_feeder.specs.declared.stage.Spec.{Spec}
-use Rattle.pcm_feeder.specs.declared.stage.Spec.TheVariants.{Depth, Matrix}
+use Rattle.pcm_feeder.specs.declared.stage.Spec.TheVariants.{Depth}
 use Rattle.pcm_feeder.specs.Filters.{Filters}
 use Rattle.pcm_feeder.specs.Layouts.{unity}
 use Rattle.pcm_feeder.specs.Stages.{at_bits, conv}
 use Rattle.pcm_feeder.specs.Streams.{Stream, silence, stream_of}
-use Rattle.pcm_plan.specs.Plans.{converter_of, converting, depth_stages, matrix_stages, rate_stages}
+use Rattle.pcm_plan.specs.Plans.{depth_stages}
 use Rattle.pcm_plan.specs.Through.{rec, recs, through}
 use Rattle.pcm_plan.specs.Fits.{TurnsEach}
 use Rattle.pcm_plan.proofs.Fits.{each-depth, record-level}
@@ -31,46 +31,26 @@ use Rattle.pcm_desk.specs.Channels.{mixed_by}
 
 -- ---- what is equal
 
--- as many channels, the same rate, and as many bits
-record IsEqual (device : DeviceSeen) : Type 0 where
-  channels : (channels_of (mix_settings device).layout == channels_of (device_settings device).layout) ≡ true
-  rate : ((mix_settings device).rate == (device_settings device).rate) ≡ true
-  bits : (bits_of (mix_settings device).format == bits_of (device_settings device).format) ≡ true
-
-equal : (device : DeviceSeen) → is_straight device ≡ true → IsEqual device
-equal device straight =
-    let from = mix_settings device in
-    let to = device_settings device in
-    let channels = channels_of from.layout == channels_of to.layout in
-    let rate = from.rate == to.rate in
-    let bits = bits_of from.format == bits_of to.format in
-    let all = and_parts (channels && rate) bits straight in
-    let first = and_parts channels rate all.0 in
-    record { channels = first.0; rate = first.1; bits = all.1 }
-
 -- as many channels are mixed as the device has
 pub straight-channels : (device : DeviceSeen) → is_straight device ≡ true
     → channels_of (mix_settings device).layout ≡ channels_of (device_settings device).layout
-straight-channels device straight =
-    eqb-true (channels_of (mix_settings device).layout) (channels_of (device_settings device).layout)
-    (equal device straight).channels
+straight-channels device straight = grind (arith, nat_tests)
 
 -- with as many bits
 pub straight-bits : (device : DeviceSeen) → is_straight device ≡ true
     → bits_of (mix_settings device).format ≡ bits_of (device_settings device).format
-straight-bits device straight =
-    eqb-true (bits_of (mix_settings device).format) (bits_of (device_settings device).format)
-    (equal device straight).bits
+straight-bits device straight = grind (arith, nat_tests)
+
+-- at the same rate
+straight_rate : (device : DeviceSeen) → is_straight device ≡ true → (mix_settings device).rate ≡ (device_settings device).rate
+straight_rate device straight = grind (arith, nat_tests)
 
 -- ---- how many frames
 
 -- as many frames are mixed as the device is given
 pub straight-count : (device : DeviceSeen) (handed : ℕ) → is_straight device ≡ true → mixed_for device handed ≡ handed
 straight-count device handed straight =
-    let from = mix_settings device in
-    let to = device_settings device in
-    let same = eqb-true from.rate to.rate (equal device straight).rate in
-    ap (λ (rate : Rate). need rate handed) (record-level (device_filters device) (device_quality device) to from same)
+    ap (λ (rate : Rate). need rate handed) (record-level (device_filters device) (device_quality device) (device_settings device) (mix_settings device) (straight_rate device straight))
     ∙ need-unchanged handed
 
 -- so an interrupt mixes as many as it gives to the device
@@ -87,39 +67,7 @@ straight-by device handed n straight =
 straight-stages : (device : DeviceSeen) → is_straight device ≡ true
     → (parent_plan device).stages
     ≡ depth_stages (bits_of (device_settings device).format) (channels_of (device_settings device).layout)
-straight-stages device straight =
-    ap (λ way. way ++ depth_stages (bits_of to.format) (channels_of to.layout)) nothing
-  where
-    from : Settings
-    from = mix_settings device
-
-    to : Settings
-    to = device_settings device
-
-    is : IsEqual device
-    is = equal device straight
-
-    matrix : matrix_stages from.layout to.layout ≡ []
-    matrix =
-        cond-true (channels_of from.layout == channels_of to.layout) [] (Matrix from.layout to.layout ∷ [])
-        is.channels
-
-    rated : ℕ → List Spec
-    rated channels = rate_stages (device_filters device) (device_quality device) from.rate to.rate channels
-
-    level : (channels : ℕ) → rated channels ≡ []
-    level channels =
-        let converter = converter_of (device_filters device) (device_quality device) from.rate to.rate channels in
-        cond-true (from.rate == to.rate) [] (converter ∷ []) is.rate
-
-    nothing : converting (device_filters device) (device_quality device) from to ≡ []
-    nothing =
-        let source = channels_of from.layout in
-        let target = channels_of to.layout in
-        let moved = matrix_stages from.layout to.layout in
-        cond_both (nat_le target source) (moved ++ rated target) (rated source ++ moved) (λ way. way ≡ [])
-        (λ fewer. ap (λ first. first ++ rated target) matrix ∙ level target)
-        (λ more. ap (λ first. first ++ moved) (level source) ∙ matrix)
+straight-stages device straight = grind (arith, nat_tests)
 
 -- and that turns each frame by itself
 pub straight-each : (device : DeviceSeen) → is_straight device ≡ true → All TurnsEach (parent_plan device).stages
@@ -132,19 +80,15 @@ straight-each device straight =
 -- samples of `bits` bits, brought to 32 and back
 there-and-back : (bits : ℕ) (frame : Frame) → at_bits bits (map (at_full bits) frame) ≡ frame
 there-and-back bits [] = refl
-there-and-back bits (sample ∷ frame) =
-    ap (λ first. first ∷ at_bits bits (map (at_full bits) frame)) (floor_div-mul_pow sample (32 - bits))
-    ∙ ap (λ rest. sample ∷ rest) (there-and-back bits frame)
+there-and-back bits (sample ∷ frame) = let first = floor_div-mul_pow sample (32 - bits) in let rest = there-and-back bits frame in cc
 
 -- samples of 32 bits, brought to 32
+times-one : (z : ℤ) → at_full 32 z ≡ z
+times-one z = grind (arith, ints)
+
 full-same : (frame : Frame) → map (at_full 32) frame ≡ frame
 full-same [] = refl
-full-same (sample ∷ frame) =
-    ap (λ first. first ∷ map (at_full 32) frame) (times-one sample) ∙ ap (λ rest. sample ∷ rest) (full-same frame)
-  where
-    times-one : (z : ℤ) → at_full 32 z ≡ z
-    times-one (pos n) = ap pos (omega arith)
-    times-one (negsuc n) = omega (arith, ints)
+full-same (sample ∷ frame) = let first = times-one sample in let rest = full-same frame in cc
 
 -- a frame through that stage, if there is one, is the frame before it was brought to 32 bits
 depth-back : (tables : Filters) (bits channels : ℕ) (x : Stream) (k : ℕ) (frame : Frame)
