@@ -1,7 +1,6 @@
 -- What an event makes of a channel: nothing, its turn, an opening, or a start with its group.
-use Rattle.std.proofs.Common.{◌≡◌, ℕ, ◌<◌, Bool, true, false, cond, Option, Some, None, inl, inr, refl, sym, ap, ◌∙◌, subst}
-use Rattle.std.specs.Prelude.{eqb}
-use Rattle.std.proofs.lemmas.Bool.{eqb-true}
+use Rattle.std.proofs.Common.{◌≡◌, ℕ, ◌<◌, true, Option, Some, None, inl, inr, refl, sym, ap, ◌∙◌, subst, arith}
+use Rattle.std.proofs.lemmas.Bool.Decides.{nat_tests}
 use Rattle.pcm_format.specs.declared.settings.Settings.{Settings}
 use Rattle.pcm_oss.specs.declared.event.Event.{Event}
 use Rattle.pcm_oss.specs.declared.event.Event.TheVariants.{Open, StartGroup, Mixer, Intr}
@@ -14,10 +13,10 @@ use Rattle.pcm_desk.specs.declared.record_book.RecordBook.{RecordBook}
 use Rattle.pcm_desk.specs.Device.{DeviceSeen}
 use Rattle.pcm_desk.specs.Channels.{Channel, Mapped, Playing, Recording, channel_begun, is_free, own_turn, starting}
 use Rattle.pcm_desk.specs.Desk.{Desk, DeskTurn, after, channel_at, channel_turn, desk_here, group_of, group_started, grouping_at, held_by, least_free, opened_at}
+use Rattle.pcm_desk.specs.Own.{descriptor_of}
 use Rattle.pcm_desk.proofs.Channels.{at-either, at-other, at-put, channel_named, least-unheld, same-channel, turn-way, way-at, way-begun}
 use Rattle.pcm_desk.proofs.Grouping.{by-starting, started-at}
 use Rattle.pcm_desk.proofs.Isolation.{channel-passed}
-use Rattle.pcm_desk.specs.Own.{descriptor_of}
 use Rattle.pcm_desk.proofs.Turning.{number_of, by-opening}
 
 -- the book of a channel that plays, of one that records, or of a mapped one; of another way it is the one beside it
@@ -46,7 +45,7 @@ channel-after device desk event mine P same turns begins starts = at event turns
         let old : Channel = channel_at device desk mine in
         let new : Channel = (own_turn device desk.handed (grouping_at device desk mine) event old).book in
         let either = at-either device desk mine new (turn-way device desk.handed (grouping_at device desk mine) event old ∙ way-at device desk mine) in
-        elim either [ inl put ↦ subst P (sym put) t | inr kept ↦ subst P (sym kept) same ]
+        grind arith
 
     -- an event of a descriptor
     named : (event : Event) (found : Option Held) → P (own_turn device desk.handed (grouping_at device desk mine) event (channel_at device desk mine)).book → P (channel_at device (channel_turn device desk event found).desk mine)
@@ -72,11 +71,7 @@ channel-after device desk event mine P same turns begins starts = at event turns
 
     -- a start of a group
     started : (group : ℕ) → 0 < group → (group_of desk mine ≡ group → P (starting device (desk_here device desk) (channel_at device desk mine))) → P (channel_at device (group_started device desk group) mine)
-    started group some starts = subst P (sym (started-at device device desk group mine some)) (either (eqb (group_of desk mine) group) refl)
-      where
-        either : (b : Bool) → eqb (group_of desk mine) group ≡ b → P (cond b (starting device (desk_here device desk) (channel_at device desk mine)) (channel_at device desk mine))
-        either true e = starts (eqb-true (group_of desk mine) group e)
-        either false e = same
+    started group some starts = let is = started-at device device desk group mine some in grind (arith, nat_tests)
 
     at : (event : Event) → P (own_turn device desk.handed (grouping_at device desk mine) event (channel_at device desk mine)).book
         → ((fd : ℕ) (way : Way) (settings : Settings) → event ≡ Open fd way settings → mine.way ≡ way → is_free (channel_at device desk mine) ≡ true → P (channel_begun way settings))

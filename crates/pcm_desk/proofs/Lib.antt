@@ -18,7 +18,6 @@ pub mod Members
 pub mod Apart
 pub mod Slots
 pub mod Turning
-pub mod MixerAlone
 pub mod Isolation
 pub mod After
 pub mod OwnEvents

@@ -10,11 +10,11 @@ use Rattle.pcm_oss.specs.declared.event.Event.TheVariants.{Open, Join, StartGrou
 use Rattle.pcm_oss.specs.declared.event.Way.{Way}
 use Rattle.pcm_oss.specs.declared.reply.Answer.{Answer}
 use Rattle.pcm_oss.specs.declared.reply.Errno.{Errno}
-use Rattle.pcm_desk.specs.declared.device.Held.{Held}
-use Rattle.pcm_desk.specs.Device.{DeviceSeen, here_at}
 use Rattle.pcm_group.specs.declared.sync_groups.Groups.{Groups}
 use Rattle.pcm_group.specs.Groups.{groups_joined}
 use Rattle.pcm_group.proofs.Members.{group-dissolved, group-left, used-some}
+use Rattle.pcm_desk.specs.declared.device.Held.{Held}
+use Rattle.pcm_desk.specs.Device.{DeviceSeen, here_at}
 use Rattle.pcm_desk.specs.Channels.{Channel, Grouping, channel_begun, own_join, own_turn, ungrouped}
 use Rattle.pcm_desk.specs.Desk.{Desk, DeskTurn, after, channel_at, group_of, grouping_at, groups_after, held_by, is_member, with_channel_at}
 use Rattle.pcm_desk.specs.Own.{GoesByDescriptor, GoesByEach, HoldApart, IsIsolatedBy, MembersWait, StartsTogether, descriptor_of, held_after}

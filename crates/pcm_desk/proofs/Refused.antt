@@ -1,5 +1,6 @@
 -- What is refused leaves the book as it was; and the outcome of a write or a read that isn't refused.
 use Rattle.std.proofs.Common.{◌≡◌, ℕ, ◌+◌, false, min, Ok, Err, arith}
+use Rattle.std.proofs.Common.{arith}
 use Rattle.pcm_oss.specs.declared.reply.Answer.{Answer}
 use Rattle.pcm_oss.specs.declared.reply.Answer.TheVariants.{Got}
 use Rattle.pcm_oss.specs.declared.reply.Errno.{Errno}
@@ -17,7 +18,6 @@ use Rattle.pcm_desk.specs.RecordBooks.{record_fill_of}
 use Rattle.pcm_desk.specs.RecordRequests.{record_ask}
 use Rattle.pcm_desk.specs.MapBooks.{poke_turn}
 use Rattle.pcm_desk.specs.MapRequests.{map_ask}
-use Rattle.std.proofs.Common.{arith}
 
 -- where a turn is refused, the book is this one
 abbrev pub LeavesRefused : {B : Type 0} → B → Turn B → Type 0
