@@ -1,17 +1,24 @@
 -- What a call leaves of a parent: it may change channels of one way alone, one of them, or none.
-use Rattle.std.proofs.Common.{rules, ◌≡◌, ℕ, ◌<◌, List, [], length, get_or, Result, Ok, Err, refl, sym, ap, ◌∙◌, subst}
+use Rattle.std.proofs.Common.{rules, ◌≡◌, ℕ, ◌<◌, List, [], length, get_or, Result, Err, refl, sym, ap, ◌∙◌, subst}
 use Rattle.std.specs.Prelude.{All, OnErr}
+use Rattle.std.proofs.lemmas.Result.{on_err_weaker}
 use Rattle.pcm_oss.specs.declared.reply.Answer.{Answer}
 use Rattle.pcm_oss.specs.declared.reply.Errno.{Errno}
 use Rattle.pcm_oss.specs.Replies.{bytes_due}
 use Rattle.pcm_sequence.specs.declared.fixed.Fixed.{Fixed}
 use Rattle.pcm_sequence.specs.Fixed.{fixed_items}
+use Rattle.pcm_sequence.proofs.Items.{item-kept}
 use Rattle.pcm_feeder.specs.declared.kind.Kind.{Kind}
 use Rattle.pcm_feeder.specs.Filters.{Filters}
 use Rattle.pcm_feeder.specs.Kept.{Kept}
 use Rattle.pcm_desk.specs.declared.device.Device.{Device}
 use Rattle.pcm_desk.specs.Device.{DeviceSeen, seen}
-use Rattle.pcm_desk.specs.Desk.{Desk, DeskTurn, refusing}
+use Rattle.pcm_desk.specs.declared.play_book.PlayBook.{PlayBook}
+use Rattle.pcm_desk.specs.declared.record_book.RecordBook.{RecordBook}
+use Rattle.pcm_desk.specs.declared.map_book.MapBook.{MapBook}
+use Rattle.pcm_desk.specs.declared.turn.Turn.{Turn}
+use Rattle.pcm_desk.specs.Channels.{Mapped, Playing, Recording}
+use Rattle.pcm_desk.specs.Desk.{Desk, DeskTurn, map_at, play_at, record_at, refusing, with_channel_at}
 use Rattle.pcm_play.specs.declared.channel.PlayChannelOf.{PlayChannelOf}
 use Rattle.pcm_play.specs.Channels.{PlayMoves}
 use Rattle.pcm_play.proofs.Moving.{moves-nothing}
@@ -22,20 +29,18 @@ use Rattle.pcm_map.specs.declared.channel.MapChannelOf.{MapChannelOf}
 use Rattle.pcm_bus.specs.Slots.{Each, MapAreOf, PlayAreOf}
 use Rattle.pcm_vchan.specs.declared.parent.ParentOf.{ParentOf}
 use Rattle.pcm_vchan.specs.Lending.{with_channel, with_map_channel, with_recorder}
-use Rattle.pcm_vchan.specs.Parents.{map_channels, play_channels, record_channels, untouched, AreClosable, AreServed, EachMapKeeps, EachPlayMoves, EachRecordMoves, KeepsOutput}
+use Rattle.pcm_vchan.specs.Parents.{map_channels, play_channels, record_channels, untouched, AreServed, EachMapKeeps, EachPlayMoves, EachRecordMoves, KeepsOutput}
 use Rattle.pcm_vchan.specs.Slots.{MapKeeps, RecordAreOf}
-use Rattle.pcm_vchan.proofs.Channels.{each_set, map-keeps-nothing, own_set}
+use Rattle.pcm_vchan.proofs.Channels.{each_set, map-keeps-nothing, own_set, parent_same}
 use Rattle.pcm_engine.specs.declared.descriptors.Descriptors.{Descriptors}
-use Rattle.pcm_engine.specs.Answered.{AnswersBy, LeavesParent}
-use Rattle.pcm_engine.specs.Desks.{ChangesBy, RepliesBy, TakesTurn, desk_with}
+use Rattle.pcm_engine.specs.Answered.{AnswersWith, LeavesParent, TakesBy}
+use Rattle.pcm_engine.specs.Desks.{desk_with}
 use Rattle.pcm_engine.specs.Invariants.{AreOwn}
+use Rattle.pcm_engine.proofs.Turning.{turn-mapped, turn-played, turn-recorded}
 
--- channels that are served, or may be closed, are of their device
+-- channels that are served are of their device
 pub own-served : {B : Type 0} {kind : B → Kind} {kept : B → Kept} {filters : Filters} {parent : ParentOf B} → AreServed kind kept filters parent → AreOwn parent
 own-served served = record { playing = served.own; recording = served.recorders_own; mapped = served.maps_own }
-
-pub own-closable : {B : Type 0} {kind : B → Kind} {parent : ParentOf B} → AreClosable kind parent → AreOwn parent
-own-closable closable = record { playing = closable.own; recording = closable.recorders_own; mapped = closable.maps_own }
 
 -- ---- channels of a way that stay
 
@@ -136,30 +141,70 @@ pub leaves-nothing : {B : Type 0} (kind : B → Kind) (kept : B → Kept) (filte
 leaves-nothing kind kept filters moved parent own =
     leaves-playing kind kept filters moved parent parent own (output-same parent) refl refl own.playing (play-stay kind kept filters moved parent parent refl)
 
--- what holds at all holds of a refusal
-refusals_too : {P : Type 0} (result : Result Answer Errno) → P → OnErr result P
-refusals_too (Ok answer) holds = tt
-refusals_too (Err errno) holds = holds
+-- ---- a call takes a turn
 
-pub answers-nothing : {B : Type 0} (kind : B → Kind) (kept : B → Kept) (filters : Filters) (turn : DeviceSeen → Desk → DeskTurn) (parent : ParentOf B) (descriptors : Descriptors) (result : Result Answer Errno) → AreServed kind kept filters parent
-    → bytes_due result ≡ 0 → ChangesBy filters turn parent descriptors parent descriptors → RepliesBy filters turn parent descriptors result → AnswersBy kind kept filters turn parent descriptors parent descriptors result
-answers-nothing kind kept filters turn parent descriptors result served silent desk reply = record {
-  silent = silent;
-  refused = refusals_too result (refl, refl);
-  desk = desk;
-  reply = reply;
-  leaves = leaves-nothing kind kept filters [] parent (own-served served);
-}
+module _ {B : Type 0} (kind : B → Kind) (kept : B → Kept) (filters : Filters) (turn : DeviceSeen → Desk → DeskTurn) (parent : ParentOf B) (descriptors : Descriptors) where
+  abbrev device : DeviceSeen
+  device = seen filters parent.device
 
--- by a turn that refuses
-pub answers-refusal : {B : Type 0} (kind : B → Kind) (kept : B → Kept) (filters : Filters) (turn : DeviceSeen → Desk → DeskTurn) (parent : ParentOf B) (descriptors : Descriptors) (result : Result Answer Errno) (errno : Errno) → AreServed kind kept filters parent
-    → turn (seen filters parent.device) (desk_with parent descriptors) ≡ refusing (desk_with parent descriptors) errno → result ≡ Err errno → AnswersBy kind kept filters turn parent descriptors parent descriptors result
-answers-refusal kind kept filters turn parent descriptors result errno served refused is =
-    answers-nothing kind kept filters turn parent descriptors result served (ap bytes_due is) (sym (ap (λ (t : DeskTurn). t.desk) refused)) (is ∙ sym (ap (λ (t : DeskTurn). t.reply) refused))
+  abbrev desk : Desk
+  desk = desk_with parent descriptors
 
-pub refuses-turn : {B : Type 0} (turn : DeviceSeen → Desk → DeskTurn) (parent : ParentOf B) (descriptors : Descriptors) (result : Result Answer Errno) (errno : Errno) → ((device : DeviceSeen) → turn device (desk_with parent descriptors) ≡ refusing (desk_with parent descriptors) errno)
-    → result ≡ Err errno → TakesTurn turn parent parent descriptors result
-refuses-turn turn parent descriptors result errno refused is = record {
-  desk = λ filters. sym (ap (λ (t : DeskTurn). t.desk) (refused (seen filters parent.device)));
-  reply = λ filters. is ∙ sym (ap (λ (t : DeskTurn). t.reply) (refused (seen filters parent.device)));
-}
+  -- one that refuses, and leaves this of the parent
+  pub takes-refusal : (moved : List ℕ) (writes : ℕ → List ℕ → List ℕ) (result : Result Answer Errno) (errno : Errno) → LeavesParent kind kept filters moved writes parent parent → turn device desk ≡ refusing desk errno → result ≡ Err errno
+      → TakesBy kind kept filters moved writes turn parent descriptors parent descriptors result
+  takes-refusal moved writes result errno leaves refused is = record {
+    refused = subst (λ (r : Result Answer Errno). OnErr r ((parent ≡ parent) × (descriptors ≡ descriptors))) (sym is) (refl, refl);
+    desk = sym (ap (λ (t : DeskTurn). t.desk) refused);
+    reply = is ∙ sym (ap (λ (t : DeskTurn). t.reply) refused);
+    leaves = leaves;
+  }
+
+  pub answers-refusal : (moved : List ℕ) (result : Result Answer Errno) (errno : Errno) → AreOwn parent → turn device desk ≡ refusing desk errno → result ≡ Err errno
+      → AnswersWith kind kept filters moved untouched turn parent descriptors parent descriptors result
+  answers-refusal moved result errno own refused is = record {
+    silent = ap bytes_due is;
+    takes = takes-refusal moved untouched result errno (leaves-nothing kind kept filters moved parent own) refused is;
+  }
+
+  -- one that lends the channel of a slot that plays, and turns its book
+  pub takes-played : (moved : List ℕ) (its : PlayBook → Turn PlayBook) (slot : ℕ) (lent new : PlayChannelOf B) (answer : Result Answer Errno) → AreOwn parent → slot < length (play_channels parent) → lent ≡ get_or (play_channels parent) slot lent
+      → (let turned : Turn PlayBook = its (play_at device desk slot) in turn device desk ≡ record { desk = with_channel_at desk slot (Playing turned.book); reply = turned.reply })
+      → new.book ≡ (its lent.book).book → answer ≡ (its lent.book).reply → new.path.device ≡ lent.path.device → PlayMoves kind kept filters moved 0 lent new → OnErr answer (new ≡ lent)
+      → TakesBy kind kept filters moved untouched turn parent descriptors (with_channel parent slot new) descriptors answer
+  takes-played moved its slot lent new answer own there is turns book reply same moves refused =
+      let turned = turn-played device its parent descriptors slot lent new answer there is book reply in
+      record {
+        refused = on_err_weaker answer (λ kept. (parent_same _ parent refl (item-kept parent.channels slot new lent (kept ∙ is)) refl refl refl refl refl refl refl refl, refl)) refused;
+        desk = turned.0 ∙ sym (ap (λ (t : DeskTurn). t.desk) turns);
+        reply = turned.1 ∙ sym (ap (λ (t : DeskTurn). t.reply) turns);
+        leaves = leaves-played kind kept filters moved parent slot lent new own there is same moves;
+      }
+
+  -- one that records
+  pub takes-recorded : (its : RecordBook → Turn RecordBook) (slot : ℕ) (lent new : RecordChannelOf B) (answer : Result Answer Errno) → AreOwn parent → slot < length (record_channels parent) → lent ≡ get_or (record_channels parent) slot lent
+      → (let turned : Turn RecordBook = its (record_at device desk slot) in turn device desk ≡ record { desk = with_channel_at desk slot (Recording turned.book); reply = turned.reply })
+      → new.book ≡ (its lent.book).book → answer ≡ (its lent.book).reply → new.path.device ≡ lent.path.device → RecordMoves kind kept filters [] 0 lent new → OnErr answer (new ≡ lent)
+      → TakesBy kind kept filters [] untouched turn parent descriptors (with_recorder parent slot new) descriptors answer
+  takes-recorded its slot lent new answer own there is turns book reply same moves refused =
+      let turned = turn-recorded device its parent descriptors slot lent new answer there is book reply in
+      record {
+        refused = on_err_weaker answer (λ kept. (parent_same _ parent refl refl (item-kept parent.recorders slot new lent (kept ∙ is)) refl refl refl refl refl refl refl, refl)) refused;
+        desk = turned.0 ∙ sym (ap (λ (t : DeskTurn). t.desk) turns);
+        reply = turned.1 ∙ sym (ap (λ (t : DeskTurn). t.reply) turns);
+        leaves = leaves-recorded kind kept filters parent slot lent new own there is same moves;
+      }
+
+  -- a mapped one, whatever is written into areas
+  pub takes-mapped : (writes : ℕ → List ℕ → List ℕ) (its : MapBook → Turn MapBook) (slot : ℕ) (lent new : MapChannelOf B) (answer : Result Answer Errno) → AreOwn parent → slot < length (map_channels parent) → lent ≡ get_or (map_channels parent) slot lent
+      → (let turned : Turn MapBook = its (map_at device desk slot) in turn device desk ≡ record { desk = with_channel_at desk slot (Mapped turned.book); reply = turned.reply })
+      → new.book ≡ (its lent.book).book → answer ≡ (its lent.book).reply → LeavesParent kind kept filters [] writes parent (with_map_channel parent slot new) → OnErr answer (new ≡ lent)
+      → TakesBy kind kept filters [] writes turn parent descriptors (with_map_channel parent slot new) descriptors answer
+  takes-mapped writes its slot lent new answer own there is turns book reply leaves refused =
+      let turned = turn-mapped device its parent descriptors slot lent new answer there is book reply in
+      record {
+        refused = on_err_weaker answer (λ kept. (parent_same _ parent refl refl refl (item-kept parent.maps slot new lent (kept ∙ is)) refl refl refl refl refl refl, refl)) refused;
+        desk = turned.0 ∙ sym (ap (λ (t : DeskTurn). t.desk) turns);
+        reply = turned.1 ∙ sym (ap (λ (t : DeskTurn). t.reply) turns);
+        leaves = leaves;
+      }

@@ -1,19 +1,16 @@
 -- An event of a script is what a call asks, wherever its bytes stand; and what an event brings.
-use Rattle.std.proofs.Common.{◌≡◌, ℕ, ◌*◌, ◌≤◌, length, drop, length-drop, length-take-le, refl, sym, subst, arith}
-use Rattle.std.proofs.Math.Nat.{mul-le-mul_right}
-use Rattle.pcm_format.specs.declared.layout.Layout.{Layout}
-use Rattle.pcm_format.specs.Layouts.{channels_of}
+use Rattle.std.proofs.Common.{◌≡◌, ℕ, length, drop, length-drop, length-take-le, refl, sym, subst, arith}
 use Rattle.pcm_oss.specs.declared.event.Event.{Event}
 use Rattle.pcm_oss.specs.declared.event.Event.TheVariants.{Open, Write, Poke, Read, StartGroup, Intr}
 use Rattle.pcm_wave.specs.declared.pool.Pool.{Pool}
 use Rattle.pcm_wave.specs.declared.pool.Source.{Source}
 use Rattle.pcm_wave.specs.declared.pool.Source.TheVariants.{Inline}
 use Rattle.pcm_wave.specs.Pools.{source_bytes}
-use Rattle.pcm_desk.specs.Device.{DeviceSeen, ring_frames}
+use Rattle.pcm_desk.specs.Device.{DeviceSeen}
 use Rattle.pcm_desk.specs.Events.{Fits, IsDescriptor}
 use Rattle.pcm_desk.specs.Own.{descriptor_of}
 use Rattle.pcm_sound.proofs.Stories.{OpensWithin}
-use Rattle.pcm_engine.specs.Brought.{HasNamed, IsAllowed, bytes_brought, bytes_asked, placeless, samples_asked}
+use Rattle.pcm_engine.specs.Brought.{HasNamed, IsAllowed, bytes_brought, bytes_asked, placeless}
 
 -- what holds of a write, or of a poke, wherever its bytes stand
 abbrev OfWrites : (Event → Type 0) → Type 0
@@ -73,8 +70,3 @@ length-brought pool event named = refl
 pub opens-allowed : (device : DeviceSeen) (event : Event) → IsAllowed device event → OpensWithin event
 opens-allowed device (Open fd way settings) within = within.1
 opens-allowed device event within = tt
-
--- an interrupt captures no more samples than a full ring has
-pub samples-allowed : (device : DeviceSeen) (layout : Layout) (event : Event) → IsAllowed device event → samples_asked layout event ≤ ring_frames device * channels_of layout
-samples-allowed device layout (Intr frames) within = mul-le-mul_right (channels_of layout) within.1
-samples-allowed device layout event within = omega arith

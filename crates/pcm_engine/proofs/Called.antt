@@ -30,7 +30,7 @@ use Rattle.pcm_vchan.specs.Parents.{map_channels, play_channels, record_channels
 use Rattle.pcm_engine.specs.declared.engine.EngineOf.{EngineOf}
 use Rattle.pcm_engine.specs.Applied.{Applied}
 use Rattle.pcm_engine.specs.Brought.{IsCalled, bytes_brought, padded, samples_brought}
-use Rattle.pcm_engine.specs.Engines.{AnswersKept, AreReady, BeginsAsOne, HandsOver, RepliesAsTold, Stands, StandsForNext, StepsAs, StepsAsCalled, device_of, desk_of, samples_most}
+use Rattle.pcm_engine.specs.Engines.{AnswersKept, AreReady, HandsOver, Stands, StandsForNext, StepsAs, StepsAsCalled, device_of, desk_of, samples_most}
 use Rattle.pcm_engine.specs.Stands.{RecordersStand, bytes_kept, frames_captured}
 use Rattle.pcm_engine.specs.Steps.{BusMoves, ChannelsMove, MapsMove, RecordersMove, bytes_answered}
 use Rattle.pcm_engine.proofs.Bringing.{descriptor-fits, wherever}
@@ -118,16 +118,6 @@ module _ {B : Type 0} (kind : B → Kind) (kept : B → Kept) (pool : Pool) (eve
             (subst (RecordersStand kept device pool (record_channels new.parent)) (sym (pushed events)) recorded);
       }
 
-  replies_told : RepliesAsTold kept pool event old reply
-  replies_told = λ events s.
-      let is = s.playing.desk_is in
-      let all = all-record kept device pool (story events) (record_channels old.parent) (ap (λ (d : Desk). d.recording) (sym is)) s.recording in
-      reply-made reply (after device (story events).desk event).reply (bytes_to device (story events) event)
-      (t.applied.rules.result ∙ ap (λ (d : Desk). (after device d event).reply) is)
-      (t.applied.rules.answered (bytes_kept device (story events)) (frames_captured device pool (story events)) all
-      ∙ ap (λ (d : Desk). bytes_answered device d (bytes_kept device (story events)) event) is
-      ∙ answered-told device pool (story events) event s.recording.valid)
-
   hands_over : HandsOver kept pool event old handed
   hands_over = λ events s.
       ap (device_body device) (pushed events)
@@ -137,21 +127,25 @@ module _ {B : Type 0} (kind : B → Kind) (kept : B → Kept) (pool : Pool) (eve
   valid_next : (events : List Event) → Stands kept old pool events → StoryIsValid device (story (events ++ event ∷ []))
   valid_next events s = subst (λ (d : DeviceSeen). StoryIsValid d (story_of d pool (events ++ event ∷ []))) device_same (stands_next events s).playing.valid
 
-  begins_as_one : BeginsAsOne kept pool event old reply.result
-  begins_as_one = λ events fd group s is ok.
-      let accepted : IsOk (after device (story events).desk (StartGroup fd group)).reply =
-      subst IsOk (t.applied.rules.result ∙ ap (λ (d : Desk). (after device d event).reply) s.playing.desk_is ∙ ap (λ (event : Event). (after device (story events).desk event).reply) is) ok in
-      let started = start-as-one device pool (story events) fd group s.playing.valid (subst (MembersWait device) s.playing.desk_is t.members) accepted in
-      subst (StartAsOne device group (story events)) (ap (told device pool (story events)) (sym is) ∙ sym (pushed events)) started
-
   steps_as : StepsAs kept pool event old new reply handed
   steps_as = record {
     stands = stands_next;
-    reply = replies_told;
+    reply = λ events s.
+        let is = s.playing.desk_is in
+        let all = all-record kept device pool (story events) (record_channels old.parent) (ap (λ (d : Desk). d.recording) (sym is)) s.recording in
+        reply-made reply (after device (story events).desk event).reply (bytes_to device (story events) event)
+        (t.applied.rules.result ∙ ap (λ (d : Desk). (after device d event).reply) is)
+        (t.applied.rules.answered (bytes_kept device (story events)) (frames_captured device pool (story events)) all
+        ∙ ap (λ (d : Desk). bytes_answered device d (bytes_kept device (story events)) event) is
+        ∙ answered-told device pool (story events) event s.recording.valid);
     bytes = hands_over;
     plain = λ events s unbroken. sym (plain-body device (story (events ++ event ∷ [])) (valid_next events s) unbroken) ∙ hands_over events s;
     mapped = λ events slot s. map-in_place device (story (events ++ event ∷ [])) slot (valid_next events s);
-    together = begins_as_one;
+    together = λ events fd group s is ok.
+        let accepted : IsOk (after device (story events).desk (StartGroup fd group)).reply =
+        subst IsOk (t.applied.rules.result ∙ ap (λ (d : Desk). (after device d event).reply) s.playing.desk_is ∙ ap (λ (event : Event). (after device (story events).desk event).reply) is) ok in
+        let started = start-as-one device pool (story events) fd group s.playing.valid (subst (MembersWait device) s.playing.desk_is t.members) accepted in
+        subst (StartAsOne device group (story events)) (ap (told device pool (story events)) (sym is) ∙ sym (pushed events)) started;
     areas = λ events s. subst (ChangesOneArea device pool event (story events)) (sym (pushed events)) (area-in-story device pool events event (descriptor-fits device pool event t.fits));
   }
 

@@ -1,8 +1,9 @@
 -- The books of a ready engine are in order, and no ring passes its size: its channels and its parent carry it.
-use Rattle.std.proofs.Common.{◌≡◌, ℕ, ◌+◌, ◌<◌, ◌≤◌, ◌^◌, List, length, get_or, map, refl, sym, ap, ◌∙◌, subst, arith}
+use Rattle.std.proofs.Common.{◌≡◌, ℕ, ◌+◌, ◌<◌, ◌≤◌, ◌^◌, List, length, get_or, map, refl, sym, ap, ◌∙◌, subst, arith, ◌*◌}
 use Rattle.std.specs.Prelude.{All}
 use Rattle.std.proofs.lemmas.List.Elements.{All-map}
 use Rattle.std.proofs.lemmas.List.{get_or-map, length-map}
+use Rattle.std.proofs.Math.Nat.{mul-le-mul_right}
 use Rattle.pcm_oss.proofs.Limits.{usual-fragments}
 use Rattle.pcm_feeder.specs.declared.kind.Kind.{Kind}
 use Rattle.pcm_feeder.specs.Filters.{Filters}
@@ -14,12 +15,12 @@ use Rattle.pcm_desk.specs.declared.map_book.MapBook.{MapBook}
 use Rattle.pcm_desk.specs.declared.record_book.RecordBook.{RecordBook}
 use Rattle.pcm_desk.specs.declared.here.Here.{Here}
 use Rattle.pcm_desk.specs.Here.{IsHere}
-use Rattle.pcm_desk.specs.Device.{DeviceSeen, IsDevice, IsInLimits, passed_for, ring_frames, seen}
+use Rattle.pcm_desk.specs.Device.{DeviceSeen, IsDevice, IsInLimits, passed_for, ring_frames, seen, mix_frames, unfiltered, parent_plan, parent_rate, play_plan_between}
 use Rattle.pcm_desk.specs.Channels.{map_rate_at, play_rate_at, record_rate_at}
 use Rattle.pcm_desk.specs.Desk.{desk_here, map_unopened, play_at, play_unopened, record_unopened}
 use Rattle.pcm_desk.specs.Own.{MembersWait}
 use Rattle.pcm_desk.specs.MapBooks.{taken_of}
-use Rattle.pcm_desk.specs.PlaySafe.{PlayIsHere, PlayIsSafe}
+use Rattle.pcm_desk.specs.PlaySafe.{PlayIsHere, PlayIsSafe, IsPlayInOrder}
 use Rattle.pcm_desk.specs.RecordSafe.{RecordIsSafe}
 use Rattle.pcm_desk.specs.MapSafe.{MapIsSafe}
 use Rattle.pcm_desk.proofs.Passing.{here-is}
@@ -31,21 +32,82 @@ use Rattle.pcm_play.specs.Channels.{IsPlayHere, IsPlayReady}
 use Rattle.pcm_play.proofs.Moving.{safe-served}
 use Rattle.pcm_record.specs.declared.channel.RecordChannelOf.{RecordChannelOf}
 use Rattle.pcm_record.specs.Channels.{IsRecordReady}
-use Rattle.pcm_record.proofs.Moving as recorders
 use Rattle.pcm_map.specs.declared.channel.MapChannelOf.{MapChannelOf}
-use Rattle.pcm_map.specs.Channels.{IsMapReady}
-use Rattle.pcm_map.proofs.Books as maps
-use Rattle.pcm_bus.specs.Slots.{MapAreOf, PlayAreOf, map_books_of, play_books_of}
-use Rattle.pcm_vchan.specs.Slots.{RecordAreOf, record_books_of}
-use Rattle.pcm_vchan.specs.Parents.{mixed_in, AreClosable, AreDue, AreServed, HasBus, here_of, map_channels, play_channels, record_channels}
+use Rattle.pcm_map.specs.Channels.{IsMapReady, CountsFit, IsMapServed}
+use Rattle.pcm_bus.specs.Slots.{play_books_of}
+use Rattle.pcm_vchan.specs.Parents.{mixed_in, AreDue, AreServed, HasBus, here_of, map_channels, play_channels, record_channels}
 use Rattle.pcm_engine.specs.declared.engine.EngineOf.{EngineOf}
-use Rattle.pcm_engine.specs.Life.{MapKeepsPace, PlayKeepsPace, RecordKeepsPace}
+use Rattle.pcm_engine.specs.Life.{MapKeepsPace, PlayKeepsPace, RecordKeepsPace, bytes_for_frame}
 use Rattle.pcm_engine.specs.Answered.{CanBeAsked}
 use Rattle.pcm_record.proofs.Capturing.{capture-fits}
-use Rattle.pcm_engine.proofs.Buses.{mixes-few}
-use Rattle.pcm_engine.proofs.Fitting.{bytes-few, counts-fit, mixed-few, taken-few}
+use Rattle.pcm_desk.proofs.Ratios.{mix-within, parent-plan-fits, plan-between-fits}
+use Rattle.pcm_desk.specs.declared.limits.TheConstants.{MIX_FRAMES}
 use Rattle.pcm_engine.proofs.Pace.{ReliesOn, at-slot, near-rate}
 use Rattle.pcm_engine.specs.Engines.{AreReady, BooksAreHere, RingsHold, desk_of, device_of}
+use Rattle.pcm_format.specs.Frames.{frame_bytes}
+use Rattle.pcm_format.proofs.Streams.{frame_bytes-most}
+use Rattle.pcm_rate.specs.declared.rate.Rate.{Rate}
+use Rattle.pcm_rate.specs.Rates.{need}
+use Rattle.pcm_chain.specs.Counts.{IsNear}
+use Rattle.pcm_chain.proofs.Counting.{need-near, rate-near}
+use Rattle.pcm_desk.specs.declared.play_book.PlayState.{PlayState}
+use Rattle.pcm_desk.specs.declared.play_book.PlayState.TheVariants.{Running, Draining}
+use Rattle.pcm_vchan.specs.declared.parent.ParentOf.{ParentOf}
+use Rattle.pcm_engine.specs.declared.limits.TheConstants.{LIFE}
+use Rattle.pcm_record.proofs.Moving as recorders
+use Rattle.pcm_map.proofs.Books as maps
+
+-- ---- few frames are given to the device, and no count of a book runs ahead of them: so all counts fit 64 bits
+
+-- a frame of the device needs 48 of the mix at most
+mixed-few : {B : Type 0} (kept : B → Kept) (device : DeviceSeen) (parent : ParentOf B) → HasBus kept device parent → parent.handed ≤ LIFE → parent.mixed ≤ 48 * LIFE + 33
+mixed-few kept device parent has few =
+    let most = need-near (parent_rate device) parent.handed (rate-near (parent_plan device) (parent-plan-fits device has.planned.limits)) in
+    let level = has.level in
+    omega (arith, most, level, few)
+
+-- ---- books that play
+
+-- a run needs 48 frames of its client at most for each that it gave
+eaten_few : (state : PlayState) (rate : Rate) (book : PlayBook) → IsNear rate → IsPlayInOrder rate state book → book.eaten ≤ 48 * book.given + 81
+eaten_few Running rate book near o = (let early = o.eats.early in omega (arith, early, need-near rate book.given near, need-near rate (book.given + 1) near))
+eaten_few (Draining closed) rate book near o = (let early = o.eats.early in omega (arith, early, need-near rate book.given near, need-near rate (book.given + 1) near))
+eaten_few state rate book near o = (let none = o.1.eaten_none in omega (arith, none))
+
+-- what was written waits, or was needed for what was mixed
+bytes-few : (rate : Rate) (mixed : ℕ) (book : PlayBook) → IsNear rate → PlayIsSafe rate book → PlayKeepsPace mixed book → book.done + book.written ≤ bytes_for_frame * mixed + 133664
+bytes-few rate mixed book near safe pace =
+    let size : ℕ = frame_bytes book.opening.settings in
+    let few = eaten_few book.state rate book near safe.order in
+    let up = mul-le-mul_right {m = book.eaten} {n = 48 * book.given + 81} size (omega (arith, few)) in
+    let wide = mul-le-mul_right {m = size} {n = 32} (48 * book.given + 81) (frame_bytes-most book.opening.settings) in
+    let fill = safe.fill in
+    let ring = safe.fragments.fits in
+    let played = pace.played in
+    omega (arith, up, wide, fill, ring, played)
+
+-- ---- mapped channels
+
+-- the counts of one fit, where it gave so few frames: it takes 48 * 32 bytes a frame at most
+counts-fit : {B : Type 0} (filters : Filters) (n : ℕ) (channel : MapChannelOf B) → IsDevice (seen filters channel.path.device) → channel.book.given + n ≤ 2 ^ 53 → CountsFit filters n channel
+counts-fit filters n channel d few =
+    let device : DeviceSeen = seen filters channel.path.device in
+    let settings = channel.book.opening.settings in
+    let rate = map_rate_at device channel.book in
+    let most = need-near rate (channel.book.given + n) (rate-near (play_plan_between device settings) (plan-between-fits device settings d channel.rate)) in
+    let wide = frame_bytes-most settings in
+    let up = mul-le-mul_right {m = need rate (channel.book.given + n)} {n = 48 * 2 ^ 53 + 33} (frame_bytes settings) (omega (arith, few, most)) in
+    record { given = omega (arith, few); taken = omega (arith, up, wide) }
+
+-- so do the bytes that it took so far
+taken-few : {B : Type 0} (filters : Filters) (channel : MapChannelOf B) → IsDevice (seen filters channel.path.device) → IsMapServed filters channel → channel.book.given ≤ 2 ^ 53 → taken_of channel.book < 2 ^ 64
+taken-few filters channel d served few =
+    let rate = map_rate_at (seen filters channel.path.device) channel.book in
+    let z = frame_bytes channel.book.opening.settings in
+    let none : channel.book.given + 0 ≡ channel.book.given = omega arith in
+    let now = counts-fit filters 0 channel d (omega (arith, few)) in
+    let taken = (maps.safe-served filters channel served).taken in
+    omega (arith, now.taken, ap (λ (k : ℕ). need rate k * z) none, ap (λ (k : ℕ). k * z) taken)
 
 -- ---- the book of each slot
 
@@ -61,29 +123,6 @@ IsMapSafe device book = MapIsSafe (map_rate_at device book) book
 -- what holds of the book of each channel, and of one that nobody has opened, holds of each slot
 each_book : {X Book : Type 0} (book : X → Book) (holds : Book → Type 0) (channels : List X) (slot : ℕ) (none : Book) → All (λ (channel : X). holds (book channel)) channels → holds none → holds (get_or (map book channels) slot none)
 each_book book holds channels slot none each unopened = at-slot holds (map book channels) slot none unopened (All-map holds book channels each)
-
--- a channel carries it by the plan that its chain goes by
-books_safe : {B : Type 0} (kind : B → Kind) (kept : B → Kept) (filters : Filters) (device : Device) (channels : List (PlayChannelOf B)) (slot : ℕ) → PlayAreOf device channels → All (IsPlayReady kind kept filters) channels
-    → IsSafe (seen filters device) (get_or (play_books_of channels) slot (play_unopened (seen filters device)))
-books_safe {B} kind kept filters device channels slot own ready =
-    each_book (λ (channel : PlayChannelOf B). channel.book) (IsSafe (seen filters device)) channels slot (play_unopened (seen filters device))
-    (λ at other there. subst (λ (d : Device). IsSafe (seen filters d) (get_or channels at other).book) (own at other there) (safe-served filters (get_or channels at other) (ready at other there).planned))
-    (record { order = (refl, unstarted); fill = omega arith; fragments = usual-fragments; volume = refl; told = omega arith })
-
-records_safe : {B : Type 0} (kind : B → Kind) (kept : B → Kept) (filters : Filters) (device : Device) (recorders : List (RecordChannelOf B)) (slot : ℕ) → RecordAreOf device recorders → All (IsRecordReady kind kept filters) recorders
-    → IsRecordSafe (seen filters device) (get_or (record_books_of recorders) slot (record_unopened (seen filters device)))
-records_safe {B} kind kept filters device channels slot own ready =
-    let none : RecordBook = record_unopened (seen filters device) in
-    each_book (λ (channel : RecordChannelOf B). channel.book) (IsRecordSafe (seen filters device)) channels slot none
-    (λ at other there. subst (λ (d : Device). IsRecordSafe (seen filters d) (get_or channels at other).book) (own at other there) (recorders.safe-served filters (get_or channels at other) (ready at other there).planned))
-    (safe-unstarted (record_rate_at (seen filters device) none) none (record { captured_none = refl; kept_none = refl; read_none = refl }) refl refl usual-fragments)
-
-maps_safe : {B : Type 0} (kind : B → Kind) (kept : B → Kept) (filters : Filters) (device : Device) (maps : List (MapChannelOf B)) (slot : ℕ) → MapAreOf device maps → All (IsMapReady kind kept filters) maps
-    → IsMapSafe (seen filters device) (get_or (map_books_of maps) slot (map_unopened (seen filters device)))
-maps_safe {B} kind kept filters device channels slot own ready =
-    each_book (λ (channel : MapChannelOf B). channel.book) (IsMapSafe (seen filters device)) channels slot (map_unopened (seen filters device))
-    (λ at other there. subst (λ (d : Device). IsMapSafe (seen filters d) (get_or channels at other).book) (own at other there) (maps.safe-served filters (get_or channels at other) (ready at other there).planned))
-    (record { order = refl; taken = refl; fragments = usual-fragments; volume = refl; told = omega arith })
 
 -- and its rate
 pub books-rates : {B : Type 0} (engine : EngineOf B) → IsDevice (device_of engine) → HaveRates (device_of engine) (desk_of engine)
@@ -144,7 +183,7 @@ rings-hold engine = record {
 
 pub ready-all : {B : Type 0} (kind : B → Kind) (kept : B → Kept) (engine : EngineOf B) → All (IsPlayReady kind kept engine.tables) (play_channels engine.parent) → All (IsRecordReady kind kept engine.tables) (record_channels engine.parent) → All (IsMapReady kind kept engine.tables) (map_channels engine.parent)
     → HasBus kept (device_of engine) engine.parent → IsInLimits (device_of engine) → BooksAreHere (device_of engine) (desk_of engine) → MembersWait (device_of engine) (desk_of engine) → AreReady kind kept engine
-ready-all kind kept engine playing recording mapped bus limits places members = record {
+ready-all {B} kind kept engine playing recording mapped bus limits places members = record {
   members = members;
   limits = limits;
   places = places;
@@ -152,26 +191,32 @@ ready-all kind kept engine playing recording mapped bus limits places members = 
   recording = recording;
   mapped = mapped;
   bus = bus;
-  books = λ slot. books_safe kind kept engine.tables engine.parent.device (play_channels engine.parent) slot engine.order.own.playing playing;
-  records = λ slot. records_safe kind kept engine.tables engine.parent.device (record_channels engine.parent) slot engine.order.own.recording recording;
-  maps = λ slot. maps_safe kind kept engine.tables engine.parent.device (map_channels engine.parent) slot engine.order.own.mapped mapped;
+  -- a channel carries it by the plan that its chain goes by
+  books = λ slot.
+      each_book (λ (channel : PlayChannelOf B). channel.book) (IsSafe (device_of engine)) (play_channels engine.parent) slot (play_unopened (device_of engine))
+      (λ at other there.
+      let channel : PlayChannelOf B = get_or (play_channels engine.parent) at other in
+      subst (λ (d : Device). IsSafe (seen engine.tables d) channel.book) (engine.order.own.playing at other there) (safe-served engine.tables channel (playing at other there).planned))
+      (record { order = (refl, unstarted); fill = omega arith; fragments = usual-fragments; volume = refl; told = omega arith });
+  records = λ slot.
+      let none : RecordBook = record_unopened (device_of engine) in
+      each_book (λ (channel : RecordChannelOf B). channel.book) (IsRecordSafe (device_of engine)) (record_channels engine.parent) slot none
+      (λ at other there.
+      let channel : RecordChannelOf B = get_or (record_channels engine.parent) at other in
+      subst (λ (d : Device). IsRecordSafe (seen engine.tables d) channel.book) (engine.order.own.recording at other there) (recorders.safe-served engine.tables channel (recording at other there).planned))
+      (safe-unstarted (record_rate_at (device_of engine) none) none (record { captured_none = refl; kept_none = refl; read_none = refl }) refl refl usual-fragments);
+  maps = λ slot.
+      each_book (λ (channel : MapChannelOf B). channel.book) (IsMapSafe (device_of engine)) (map_channels engine.parent) slot (map_unopened (device_of engine))
+      (λ at other there.
+      let channel : MapChannelOf B = get_or (map_channels engine.parent) at other in
+      subst (λ (d : Device). IsMapSafe (seen engine.tables d) channel.book) (engine.order.own.mapped at other there) (maps.safe-served engine.tables channel (mapped at other there).planned))
+      (record { order = refl; taken = refl; fragments = usual-fragments; volume = refl; told = omega arith });
   rings = rings-hold engine;
 }
 
 -- they are ready for a call
 pub served : {B : Type 0} {kind : B → Kind} {kept : B → Kept} {engine : EngineOf B} → AreReady kind kept engine → AreServed kind kept engine.tables engine.parent
 served {engine = engine} ready = record { own = engine.order.own.playing; recorders_own = engine.order.own.recording; maps_own = engine.order.own.mapped; ready = ready.playing; recorders_ready = ready.recording; maps_ready = ready.mapped }
-
--- and may be closed
-pub closable : {B : Type 0} {kind : B → Kind} {kept : B → Kept} {engine : EngineOf B} → AreReady kind kept engine → AreClosable kind engine.parent
-closable {engine = engine} ready = record {
-  own = engine.order.own.playing;
-  recorders_own = engine.order.own.recording;
-  maps_own = engine.order.own.mapped;
-  kinds = λ slot other there. (ready.playing slot other there).kinds;
-  recorders_kinds = λ slot other there. (ready.recording slot other there).kinds;
-  maps_kinds = λ slot other there. (ready.mapped slot other there).kinds;
-}
 
 -- ---- counts
 
@@ -209,13 +254,15 @@ maps-taken kind kept engine ready slot other there =
     taken-few engine.tables channel device (ready.mapped slot other there).planned (omega (arith, given, few-mixed kept engine ready.bus))
 
 -- all may be asked where the mix and the device are
-pub can-be-asked : {B : Type 0} {kind : B → Kind} {kept : B → Kept} {engine : EngineOf B} {here : Here} → AreReady kind kept engine → here ≡ here_of engine.parent → CanBeAsked kind kept engine.tables here engine.parent
+pub can-be-asked : {B : Type 0} {kind : B → Kind} {kept : B → Kept} {engine : EngineOf B} {here : Here} → AreReady kind kept engine → here ≡ here_of engine.parent → CanBeAsked kind kept engine.tables here engine.parent engine.descriptors
 can-be-asked {B} {kind} {kept} {engine} {here} ready is = record {
+  apart = engine.order.apart;
   served = served ready;
+  bus = ready.bus;
   here = subst IsHere (sym is) (here-within kept engine ready.limits ready.bus);
   at = is ∙ here-seen kept engine ready.bus;
   places = subst (λ (place : Here). All (IsPlayHere engine.tables place) (play_channels engine.parent)) (sym is) (channels-here kept engine ready.bus ready.places);
-  count = λ slot other there. (let counted = bytes-counted ready slot other there in omega (arith, counted));
+  count = bytes-counted ready;
   taken = maps-taken kind kept engine ready;
 }
 
@@ -224,7 +271,9 @@ pub due : {B : Type 0} {kind : B → Kind} {kept : B → Kept} {engine : EngineO
 due {B} {kind} {kept} {engine} {frames} ready fits =
     let own = engine.order.own in
     let IsOf : Device → Type 0 = λ d. IsDevice (seen engine.tables d) in
-    let few = mixes-few engine.tables frames engine.parent ready.limits.device_is fits.1 in
+    let most = mix-within (device_of engine) engine.parent.handed frames ready.limits.device_is fits.1 in
+    let mixes = subst (λ (device : Device). mix_frames (unfiltered device) ≤ MIX_FRAMES) engine.parent.bus_of engine.parent.bus.mix_within in
+    let few : mixed_in engine.tables frames engine.parent ≤ MIX_FRAMES = omega (arith, most, mixes) in
     let mixed = few-mixed kept engine ready.bus in
     record {
       bus = ready.bus;

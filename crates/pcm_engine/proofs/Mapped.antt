@@ -38,7 +38,7 @@ use Rattle.pcm_sound.proofs.MapSlots.{Keeps, map_playing-idle, map_playing-on, n
 use Rattle.pcm_sound.proofs.MapStories.{keeps-maps, map_marking-same, map_mixing-runs}
 use Rattle.pcm_map.specs.declared.channel.MapChannelOf.{MapChannelOf}
 use Rattle.pcm_map.specs.Channels.{IsMapReady, MapMoves, MapStands, RecutsArea, area_of}
-use Rattle.pcm_bus.specs.Slots.{AllMapStand, MapPlays, map_books_of}
+use Rattle.pcm_bus.specs.Slots.{MapPlays, map_books_of}
 use Rattle.pcm_vchan.specs.Slots.{MapKeeps}
 use Rattle.pcm_vchan.specs.Starts.{EachAt}
 use Rattle.pcm_vchan.specs.Parents.{untouched}
@@ -80,22 +80,13 @@ taken_marked false true device mixed old new runs was is k v =
 taken_marked was false device mixed old new runs e is k v =
     none_of (taken_of new) (newest_bytes (marked_by was false mixed new runs)) (take (taken_of old) (newest_bytes runs) ++ []) (untaken (map_rate_at device new) new is (k.safe v.safe))
 
--- after an event that mixes nothing
-taken-marked : (device : DeviceSeen) (mixed : ℕ) (old new : MapBook) (runs : List Run) → Keeps device old new → MapIsValid device mixed old runs
-    → take (taken_of new) (newest_bytes (map_marking mixed old new runs)) ≡ take (taken_of new) (take (taken_of old) (newest_bytes runs) ++ [])
-taken-marked device mixed old new runs k v = taken_marked (is_running old.state) (is_running new.state) device mixed old new runs refl refl k v
-
--- nothing is taken of an area from a place to the same
-nothing_of : (area : List ℕ) (taken : ℕ) → area_bytes area taken (taken - taken) ≡ []
-nothing_of area taken = let none : taken - taken ≡ 0 = omega arith in ap (area_bytes area taken) none
-
 -- of a slot that doesn't run
 idle_taken : (device : DeviceSeen) (mixed n : ℕ) (book : MapBook) (area : List ℕ) (runs : List Run) → is_running book.state && nat_lt 0 n ≡ false
     → take (taken_of book) (newest_bytes (map_playing device mixed n book area runs)) ≡ take (taken_of book) (take (taken_of book) (newest_bytes runs) ++ area_bytes area (taken_of book) (taken_of book - taken_of book))
 idle_taken device mixed n book area runs off =
     ap (λ all. take (taken_of book) (newest_bytes all)) (map_playing-idle device mixed n book area runs off)
     ∙ no_more (taken_of book) (newest_bytes runs)
-    ∙ ap (λ more. take (taken_of book) (take (taken_of book) (newest_bytes runs) ++ more)) (sym (nothing_of area (taken_of book)))
+    ∙ ap (λ more. take (taken_of book) (take (taken_of book) (newest_bytes runs) ++ more)) (sym (let none : taken_of book - taken_of book ≡ 0 = omega arith in ap (area_bytes area (taken_of book)) none))
 
 taken_in : (state : RunState) (device : DeviceSeen) (mixed n : ℕ) (book : MapBook) (area : List ℕ) (runs : List Run) → MapIsValid device mixed (record book { state = state }) runs
     → let old : MapBook = record book { state = state } in let new : MapBook = map_refilled_in (map_rate_at device book) state (suc n) old in
@@ -163,7 +154,7 @@ stands_kept kind kept device pool story event slot old new fits none v runs move
     let bytes : List ℕ = map_bytes_counted device story slot in
     stands_from kept device pool story event slot new [] is
     (moves.moves.stands bytes (subst (λ (b : MapBook). MapStands kept (device_filters device) old b bytes) was stood.stands))
-    (ap (λ (all : List Run). take (taken_of now) (newest_bytes all)) runs ∙ taken-marked device story.desk.mixed before now (story.map_runs slot) (keeps-maps device pool story.desk event fits none slot) (v.maps slot))
+    (ap (λ (all : List Run). take (taken_of now) (newest_bytes all)) runs ∙ taken_marked (is_running before.state) (is_running now.state) device story.desk.mixed before now (story.map_runs slot) refl refl (keeps-maps device pool story.desk event fits none slot) (v.maps slot))
     (moves.area
     ∙ ap (λ (b : MapBook). cond (silences b new.book) (silent_area new.book.opening) (written_by pool story.desk event slot (area_of old))) (sym was)
     ∙ ap (λ (b : MapBook). cond (silences before b) (silent_area b.opening) (written_by pool story.desk event slot (area_of old))) (sym is)
@@ -204,16 +195,6 @@ map-told kind kept plain filters pool story (Intr n) before now slot other fits 
     stands_played kind kept plain filters pool story n slot (get_or before slot other) (get_or now slot other) v own (moves slot other there)
 map-told kind kept plain filters pool story event before now slot other fits v own there moves =
     stands_kept kind kept (seen filters plain) pool story event slot (get_or before slot other) (get_or now slot other) fits refl v refl (moves slot other there)
-
--- each mapped channel stands for its book, the bytes that were taken in its slot, and its area
-pub all-map : {B : Type 0} (kept : B → Kept) (device : DeviceSeen) (story : Story) (maps : List (MapChannelOf B)) → story.desk.mapped ≡ map_books_of maps
-    → ((slot : ℕ) (other : MapChannelOf B) → slot < length maps → MapSlotStands kept device story slot (get_or maps slot other)) → AllMapStand kept (device_filters device) maps (map_bytes_counted device story) story.areas
-all-map kept device story maps mapped s = λ slot other there.
-    let stood = s slot other there in
-    record {
-      stands = subst (λ (b : MapBook). MapStands kept (device_filters device) (get_or maps slot other) b (map_bytes_counted device story slot)) (map_at-books device story.desk maps slot other mapped there) stood.stands;
-      area = stood.area;
-    }
 
 -- ---- what a call leaves of mapped channels
 

@@ -29,7 +29,6 @@ use Rattle.pcm_desk.specs.declared.here.Here.{Here}
 use Rattle.pcm_desk.specs.declared.map_book.MapBook.{MapBook}
 use Rattle.pcm_desk.specs.declared.run_state.RunState.{RunState}
 use Rattle.pcm_desk.specs.declared.run_state.RunState.TheVariants as run_states
-use Rattle.pcm_desk.specs.declared.opening.Opening.{Opening}
 use Rattle.pcm_desk.specs.declared.play_book.PlayBook.{PlayBook}
 use Rattle.pcm_desk.specs.declared.play_book.PlayState.{PlayState}
 use Rattle.pcm_desk.specs.declared.play_book.PlayState.TheVariants.{Free, Setup, Primed, Running, Draining}
@@ -38,7 +37,7 @@ use Rattle.pcm_desk.specs.declared.turn.Turn.{Turn}
 use Rattle.pcm_desk.specs.Device.{DeviceSeen, IsDevice, mix_settings, mixed_for, passed_for, play_plan_between}
 use Rattle.pcm_desk.specs.BookTurns.{doing, refused, telling}
 use Rattle.pcm_desk.specs.Openings.{fragment_bytes, ring_bytes}
-use Rattle.pcm_desk.specs.PlayBooks.{accepting, close_turn, closed_in, drained_in, finished, frames_written, giving, is_over, play_dropped, play_emptied, play_fill_of, play_free_of, play_settled, refilled_in, started_at, started_in, takes_none, write_turn}
+use Rattle.pcm_desk.specs.PlayBooks.{accepting, closed_in, drained_in, finished, frames_written, is_over, play_emptied, play_fill_of, play_free_of, play_settled, refilled_in, started_at, started_in, takes_none, write_turn}
 use Rattle.pcm_desk.specs.PlayRequests.{play_ask, play_roused_in, play_stopped_in, play_with_trigger}
 use Rattle.pcm_desk.specs.RecordBooks as records
 use Rattle.pcm_desk.specs.RunStates.{is_running}
@@ -53,6 +52,7 @@ use Rattle.pcm_desk.specs.Desk.{Desk, DeskTurn, after, desk_here, group_started,
 use Rattle.pcm_desk.proofs.Grouping.{by-starting}
 use Rattle.pcm_desk.proofs.MapLeaves as map_leaves
 use Rattle.pcm_desk.proofs.PlayAsking.{Dropping, Ending, Noting, SettingUp, Starting, Stopping, ask-does, noting}
+use Rattle.pcm_desk.proofs.PlaySafe.{settings-refilled}
 use Rattle.pcm_desk.proofs.Ratios.{plan-between-fits}
 use Rattle.pcm_desk.proofs.RecordLeaves as record_leaves
 use Rattle.pcm_desk.proofs.Turning.{by-opening, by-turning}
@@ -74,10 +74,6 @@ either P false x y px py = py
 -- what counts as much as a book before keeps the pace of as many frames
 paced : (mixed : ℕ) (old new : PlayBook) → new.done ≡ old.done → new.given ≡ old.given → PlayKeepsPace mixed old → PlayKeepsPace mixed new
 paced mixed old new done given p = record { played = (let before = p.played in omega (arith, done, given, before)) }
-
--- one that counts no frame, and no more bytes
-rests : (mixed : ℕ) (old new : PlayBook) → new.done ≤ old.done → new.given ≡ 0 → PlayKeepsPace mixed old → PlayKeepsPace mixed new
-rests mixed old new done given p = record { played = (let before = p.played in omega (arith, done, given, before)) }
 
 -- a frame of the mix lasts no longer than 48 of a client
 frames-near : (rate : Rate) (n : ℕ) → IsNear rate → n ≤ 48 * len rate n
@@ -105,11 +101,8 @@ finished_pace rate mixed state book near all p =
     let before = p.played in
     record { played = omega (arith, before, up, wide) }
 
-over_all : (rate : Rate) (passed : ℤ) (book : PlayBook) → is_over rate passed book ≡ true → book.given ≡ len rate (frames_written book)
-over_all rate passed book over = eqb-true book.given (len rate (frames_written book)) (and_parts (eqb book.given (len rate (frames_written book))) _ over).0
-
 over_in : (b : Bool) (rate : Rate) (passed : ℤ) (mixed : ℕ) (state : PlayState) (book : PlayBook) → IsNear rate → is_over rate passed book ≡ b → PlayKeepsPace mixed book → PlayKeepsPace mixed (cond b (finished state book) book)
-over_in true rate passed mixed state book near over p = finished_pace rate mixed state book near (over_all rate passed book over) p
+over_in true rate passed mixed state book near over p = finished_pace rate mixed state book near (eqb-true book.given (len rate (frames_written book)) (and_parts (eqb book.given (len rate (frames_written book))) _ over).0) p
 over_in false rate passed mixed state book near over p = p
 
 settled_at : (state : PlayState) (rate : Rate) (passed : ℤ) (mixed : ℕ) (book : PlayBook) → IsNear rate → PlayKeepsPace mixed (record book { state = state }) → PlayKeepsPace mixed (play_settled rate passed (record book { state = state }))
@@ -122,7 +115,7 @@ drained_at : (state : PlayState) (rate : Rate) (here : Here) (mixed : ℕ) (book
 drained_at Primed rate here mixed book near p =
     let started : PlayBook = started_at here.mixed (Draining false) (record book { state = Primed }) in
     let emptied : PlayBook = play_emptied Setup (record book { state = Primed }) in
-    either (PlayKeepsPace mixed) (nat_lt 0 (frames_written book)) started emptied (paced mixed (record book { state = Primed }) started refl refl p) (rests mixed (record book { state = Primed }) emptied (omega arith) refl p)
+    either (PlayKeepsPace mixed) (nat_lt 0 (frames_written book)) started emptied (paced mixed (record book { state = Primed }) started refl refl p) (record { played = (let before = p.played in omega (arith, before)) })
 drained_at Running rate here mixed book near p =
     settled_at (Draining false) rate here.passed mixed book near (paced mixed (record book { state = Running }) (record book { state = Draining false }) refl refl p)
 drained_at state rate here mixed book near p = p
@@ -131,11 +124,6 @@ closed_at : (state : PlayState) (mixed : ℕ) (book : PlayBook) → PlayKeepsPac
 closed_at Setup mixed book p = paced mixed (record book { state = Setup }) (record book { state = Free }) refl refl p
 closed_at (Draining was) mixed book p = paced mixed (record book { state = Draining was }) (record book { state = Draining true }) refl refl p
 closed_at state mixed book p = p
-
-close_pace : (rate : Rate) (here : Here) (mixed : ℕ) (book : PlayBook) → IsNear rate → PlayKeepsPace mixed book → PlayKeepsPace mixed (close_turn rate here book)
-close_pace rate here mixed book near p =
-    let between : PlayBook = drained_in rate here book.state book in
-    closed_at between.state mixed between (drained_at book.state rate here mixed book near p)
 
 -- a write counts no frame
 started_pace : (b : Bool) (at mixed : ℕ) (more : PlayBook) → PlayKeepsPace mixed more → PlayKeepsPace mixed (cond b (started_at at Running more) (record more { state = Primed }))
@@ -171,12 +159,9 @@ roused_at Primed at mixed book p =
     either (PlayKeepsPace mixed) (nat_lt 0 (frames_written book)) (started_at at Running primed) primed (paced mixed primed (started_at at Running primed) refl refl p) p
 roused_at state at mixed book p = p
 
-dropped_pace : (mixed : ℕ) (book : PlayBook) → PlayKeepsPace mixed (play_dropped book)
-dropped_pace mixed book = record { played = omega arith }
-
 stopped_at : (state : PlayState) (mixed : ℕ) (book : PlayBook) → PlayKeepsPace mixed (record book { state = state }) → PlayKeepsPace mixed (play_stopped_in state (record book { state = state }))
-stopped_at Primed mixed book p = dropped_pace mixed (record book { state = Primed })
-stopped_at Running mixed book p = dropped_pace mixed (record book { state = Running })
+stopped_at Primed mixed book p = record { played = omega arith }
+stopped_at Running mixed book p = record { played = omega arith }
 stopped_at state mixed book p = p
 
 ask_pace : (rate : Rate) (mix_rate : ℕ) (here : Here) (request : Request) (mixed : ℕ) (book : PlayBook) → IsNear rate → PlayKeepsPace mixed book → PlayKeepsPace mixed (play_ask rate mix_rate here request book).book
@@ -188,32 +173,21 @@ ask_pace rate mix_rate here request mixed book near p =
       | Starting trigger is ↦ subst (PlayKeepsPace mixed) (sym is) (roused_at book.state here.mixed mixed (play_with_trigger trigger book) (set trigger))
       | Stopping bits asks off is ↦ subst (PlayKeepsPace mixed) (sym is) (stopped_at book.state mixed (play_with_trigger false book) (set false))
       | Ending is ↦ subst (PlayKeepsPace mixed) (sym is) (drained_at book.state rate here mixed book near p)
-      | Dropping asks is ↦ subst (PlayKeepsPace mixed) (sym is) (dropped_pace mixed book)
+      | Dropping asks is ↦ subst (PlayKeepsPace mixed) (sym is) (record { played = omega arith })
     ]
 
 -- an interrupt gives no more frames than it mixes
-more_mixed : (mixed frames : ℕ) (book : PlayBook) → PlayKeepsPace mixed book → PlayKeepsPace (mixed + frames) book
-more_mixed mixed frames book p = record { played = (let before = p.played in omega (arith, before)) }
-
-given_pace : (rate : Rate) (at mixed n : ℕ) (old new : PlayBook) → new.done ≡ old.done → new.given ≡ old.given + giving rate n old → PlayKeepsPace mixed old → PlayKeepsPace (mixed + n) new
-given_pace rate at mixed n old new done given p = record { played = (let before = p.played in omega (arith, done, given, before)) }
-
 refilled_at : (state : PlayState) (rate : Rate) (at mixed n : ℕ) (book : PlayBook) → PlayKeepsPace mixed (record book { state = state }) → PlayKeepsPace (mixed + n) (refilled_in rate at state n (record book { state = state }))
-refilled_at Running rate at mixed n book p = given_pace rate at mixed n (record book { state = Running }) (refilled_in rate at Running n (record book { state = Running })) refl refl p
-refilled_at (Draining closed) rate at mixed n book p = given_pace rate at mixed n (record book { state = Draining closed }) (refilled_in rate at (Draining closed) n (record book { state = Draining closed })) refl refl p
-refilled_at state rate at mixed n book p = more_mixed mixed n (record book { state = state }) p
+refilled_at Running rate at mixed n book p = record { played = (let before = p.played in omega (arith, before)) }
+refilled_at state rate at mixed n book p = record { played = (let before = p.played in omega (arith, before)) }
 
 mixing_pace : (device : DeviceSeen) (at mixed n : ℕ) (book : PlayBook) → PlayKeepsPace mixed book → PlayKeepsPace (mixed + n) (mixing device at n book)
-mixing_pace device at mixed zero book p = more_mixed mixed zero book p
+mixing_pace device at mixed zero book p = record { played = (let before = p.played in omega (arith, before)) }
 mixing_pace device at mixed (suc n) book p = refilled_at book.state (play_rate_at device book) at mixed (suc n) book p
 
-refilled_opening : (state : PlayState) (rate : Rate) (at n : ℕ) (book : PlayBook) → (refilled_in rate at state n (record book { state = state })).opening ≡ book.opening
-refilled_opening Running rate at n book = refl
-refilled_opening state rate at n book = refl
-
-mixing_opening : (device : DeviceSeen) (at n : ℕ) (book : PlayBook) → (mixing device at n book).opening ≡ book.opening
-mixing_opening device at zero book = refl
-mixing_opening device at (suc n) book = refilled_opening book.state (play_rate_at device book) at (suc n) book
+mixing_settings : (device : DeviceSeen) (at n : ℕ) (book : PlayBook) → (mixing device at n book).opening.settings ≡ book.opening.settings
+mixing_settings device at zero book = refl
+mixing_settings device at (suc n) book = settings-refilled (play_rate_at device book) at (suc n) book
 
 pub near-rate : (device : DeviceSeen) (settings : Settings) → IsDevice device → IsRate settings.rate → IsNear (rate_in_plan (play_plan_between device settings))
 near-rate device settings d rate = rate-near (play_plan_between device settings) (plan-between-fits device settings d rate)
@@ -224,7 +198,7 @@ passing_pace device handed mixed n book d rate p =
     let frames : ℕ = mixed_by device handed n in
     let at : ℕ = mixed_for device handed in
     let between : PlayBook = mixing device at frames book in
-    let its : IsRate between.opening.settings.rate = subst (λ (opening : Opening). IsRate opening.settings.rate) (sym (mixing_opening device at frames book)) rate in
+    let its : IsRate between.opening.settings.rate = subst (λ (settings : Settings). IsRate settings.rate) (sym (mixing_settings device at frames book)) rate in
     settled_at between.state (play_rate_at device between) (passed_for device (handed + n)) (mixed + frames) between (near-rate device between.opening.settings d its) (mixing_pace device at mixed frames book p)
 
 -- ---- books that record
@@ -255,14 +229,11 @@ captured_at state device handed n book e some s p = record { captured = (let bef
 
 -- ---- mapped books
 
-map_paced : (mixed : ℕ) (old new : MapBook) → new.given ≤ old.given → MapKeepsPace mixed old → MapKeepsPace mixed new
-map_paced mixed old new given p = record { given = (let before = p.given in omega (arith, given, before)) }
-
 map_ask_pace : (rate : Rate) (request : Request) (mixed : ℕ) (book : MapBook) → MapIsSafe rate book → MapKeepsPace mixed book → MapKeepsPace mixed (map_ask request book).book
 map_ask_pace rate request mixed book s p =
     elim (map_leaves.map-asked-leaves rate request book s).counts [
-      | inl stays ↦ map_paced mixed book (map_ask request book).book (omega (arith, stays.given)) p
-      | inr ends ↦ map_paced mixed book (map_ask request book).book (omega (arith, ends.given)) p
+      | inl stays ↦ record { given = (let before = p.given in omega (arith, stays.given, before)) }
+      | inr ends ↦ record { given = (let before = p.given in omega (arith, ends.given, before)) }
     ]
 
 poke_pace : (offset count mixed : ℕ) (book : MapBook) → MapKeepsPace mixed book → MapKeepsPace mixed (poke_turn offset count book).book
@@ -351,28 +322,6 @@ joined_pace : (device : DeviceSeen) (desk : Desk) (held : Held) (result : Result
 joined_pace device desk held (Ok group) r p = asked_pace device desk held (SetTrigger 0) r p
 joined_pace device desk held (Err errno) r p = channel_pace device desk held p
 
-wrote_pace : (device : DeviceSeen) (desk : Desk) (held : Held) (count : ℕ) → KeepsPace desk → ChannelKeepsPace desk (own_write (desk_here device desk) count (channel_at device desk held)).book
-wrote_pace device desk held count p =
-    by_ways device desk held (λ channel. (own_write (desk_here device desk) count channel).book)
-    (write_pace (desk_here device desk) desk.mixed count (play_at device desk held.slot) (play_slot device desk held.slot p)) (record_slot device desk held.slot p) (map_slot device desk held.slot p)
-
-poked_pace : (device : DeviceSeen) (desk : Desk) (held : Held) (offset count : ℕ) → KeepsPace desk → ChannelKeepsPace desk (own_poke offset count (channel_at device desk held)).book
-poked_pace device desk held offset count p =
-    by_ways device desk held (λ channel. (own_poke offset count channel).book)
-    (play_slot device desk held.slot p) (record_slot device desk held.slot p) (poke_pace offset count desk.mixed (map_at device desk held.slot) (map_slot device desk held.slot p))
-
-got_pace : (device : DeviceSeen) (desk : Desk) (held : Held) (count : ℕ) → KeepsPace desk → ChannelKeepsPace desk (own_read count (channel_at device desk held)).book
-got_pace device desk held count p =
-    by_ways device desk held (λ channel. (own_read count channel).book)
-    (play_slot device desk held.slot p) (read_pace count desk.handed (record_at device desk held.slot) (record_slot device desk held.slot p)) (map_slot device desk held.slot p)
-
-closed_pace : (device : DeviceSeen) (desk : Desk) (held : Held) → ReliesOn device desk → KeepsPace desk → ChannelKeepsPace desk (own_close device (desk_here device desk) (channel_at device desk held))
-closed_pace device desk held r p =
-    let old : PlayBook = play_at device desk held.slot in
-    by_ways device desk held (own_close device (desk_here device desk))
-    (close_pace (play_rate_at device old) (desk_here device desk) desk.mixed old (near-rate device old.opening.settings r.device_is (r.rates held.slot)) (play_slot device desk held.slot p))
-    (record { captured = omega arith; kept = omega arith }) (record { given = omega arith })
-
 -- all members of a group start
 change_pace : {X : Type 0} (P : X → Type 0) (group : ℕ) (how : X → X) (slots : List ℕ) (books : List X) → 0 < group → ((slot : ℕ) (other : X) → slot < length books → P (how (get_or books slot other))) → All P books
     → All P (change_in group how slots books)
@@ -436,13 +385,29 @@ pub pace-after : (device : DeviceSeen) (desk : Desk) (event : Event) → HandsSo
 pace-after device desk (Open fd way settings) some r p =
     by-opening (λ (t : DeskTurn). KeepsPace t.desk) desk fd way settings (λ held e. p) (λ shut. p)
     (λ slot shut found. let set = channel_set desk slot (channel_begun way settings) (begun_pace desk way settings) p in record { playing = set.playing; recording = set.recording; mapped = set.mapped })
-pace-after device desk (Write fd source at count) some r p = turned_pace device desk (Write fd source at count) fd p (λ held. wrote_pace device desk held count p)
-pace-after device desk (Poke fd offset at count) some r p = turned_pace device desk (Poke fd offset at count) fd p (λ held. poked_pace device desk held offset count p)
-pace-after device desk (Read fd count) some r p = turned_pace device desk (Read fd count) fd p (λ held. got_pace device desk held count p)
+pace-after device desk (Write fd source at count) some r p =
+    turned_pace device desk (Write fd source at count) fd p (λ held.
+    by_ways device desk held (λ channel. (own_write (desk_here device desk) count channel).book)
+    (write_pace (desk_here device desk) desk.mixed count (play_at device desk held.slot) (play_slot device desk held.slot p)) (record_slot device desk held.slot p) (map_slot device desk held.slot p))
+pace-after device desk (Poke fd offset at count) some r p =
+    turned_pace device desk (Poke fd offset at count) fd p (λ held.
+    by_ways device desk held (λ channel. (own_poke offset count channel).book)
+    (play_slot device desk held.slot p) (record_slot device desk held.slot p) (poke_pace offset count desk.mixed (map_at device desk held.slot) (map_slot device desk held.slot p)))
+pace-after device desk (Read fd count) some r p =
+    turned_pace device desk (Read fd count) fd p (λ held.
+    by_ways device desk held (λ channel. (own_read count channel).book)
+    (play_slot device desk held.slot p) (read_pace count desk.handed (record_at device desk held.slot) (record_slot device desk held.slot p)) (map_slot device desk held.slot p))
 pace-after device desk (Ioctl fd request) some r p = turned_pace device desk (Ioctl fd request) fd p (λ held. requested_pace device desk held request (member_refusal (is_member desk held) request) r p)
 pace-after device desk (Join fd group) some r p = turned_pace device desk (Join fd group) fd p (λ held. joined_pace device desk held ((grouping_at device desk held).joins group) r p)
 pace-after device desk (StartGroup fd group) some r p =
     by-starting device (λ (t : DeskTurn). KeepsPace t.desk) (held_by desk fd) desk group (λ errno. p) (λ used ready. start_pace device desk group (used-some desk.groups group used) r p)
-pace-after device desk (Close fd) some r p = turned_pace device desk (Close fd) fd p (λ held. closed_pace device desk held r p)
+pace-after device desk (Close fd) some r p =
+    turned_pace device desk (Close fd) fd p (λ held.
+    let old : PlayBook = play_at device desk held.slot in
+    let rate : Rate = play_rate_at device old in
+    by_ways device desk held (own_close device (desk_here device desk))
+    (closed_at (drained_in rate (desk_here device desk) old.state old).state desk.mixed (drained_in rate (desk_here device desk) old.state old)
+    (drained_at old.state rate (desk_here device desk) desk.mixed old (near-rate device old.opening.settings r.device_is (r.rates held.slot)) (play_slot device desk held.slot p)))
+    (record { captured = omega arith; kept = omega arith }) (record { given = omega arith }))
 pace-after device desk (Mixer request) some r p = record { playing = p.playing; recording = p.recording; mapped = p.mapped }
 pace-after device desk (Intr n) some r p = interrupt_pace device desk n some r p

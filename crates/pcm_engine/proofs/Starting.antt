@@ -28,13 +28,12 @@ use Rattle.pcm_wave.specs.Pools.{captured_frames}
 use Rattle.pcm_desk.specs.declared.record_book.RecordBook.{RecordBook}
 use Rattle.pcm_sound.proofs.Recorded.{recordings-start}
 use Rattle.pcm_sound.proofs.Stories.{valid-start, get_or-same}
-use Rattle.pcm_play.specs.declared.channel.PlayChannelOf.{PlayChannelOf}
 use Rattle.pcm_vchan.specs.declared.parent.ParentOf.{ParentOf}
 use Rattle.pcm_record.specs.declared.channel.RecordChannelOf.{RecordChannelOf}
-use Rattle.pcm_record.specs.Channels.{IsRecordReady, IsRecordUnopened, RecordStands}
+use Rattle.pcm_record.specs.Channels.{IsRecordUnopened, RecordStands}
 use Rattle.pcm_map.specs.declared.channel.MapChannelOf.{MapChannelOf}
-use Rattle.pcm_map.specs.Channels.{IsMapReady, IsMapUnopened, MapStands}
-use Rattle.pcm_play.specs.Channels.{PlayStands, IsPlayReady, IsPlayUnopened}
+use Rattle.pcm_map.specs.Channels.{IsMapUnopened, MapStands}
+use Rattle.pcm_play.specs.Channels.{PlayStands, IsPlayUnopened}
 use Rattle.pcm_bus.specs.Blocks.{silent_ring}
 use Rattle.pcm_bus.specs.Handovers.{HasMade}
 use Rattle.pcm_engine.specs.declared.descriptors.Descriptors.{Descriptors}
@@ -61,19 +60,7 @@ books-unopened {X} book channels n none slots each =
     let other : X = some_channel channels k there in
     get_or-map book channels k other d there ∙ each k other there ∙ sym (get_or-replicate n k none d (omega arith)))
 
--- channels that nobody has opened are ready
-pub ready-unopened : {B : Type 0} (kind : B → Kind) (kept : B → Kept) (filters : Filters) (device : Device) (channels : List (PlayChannelOf B)) → All (IsPlayUnopened kind kept filters device) channels → All (IsPlayReady kind kept filters) channels
-ready-unopened kind kept filters device channels each = λ slot other there.
-    let u = each slot other there in
-    record { kinds = u.kinds; planned = λ used. u.planned; stands = record { bytes = []; stands = u.stands } }
-
 -- ---- mapped channels
-
--- those that nobody has opened are ready
-pub map-ready-unopened : {B : Type 0} (kind : B → Kind) (kept : B → Kept) (filters : Filters) (device : Device) (maps : List (MapChannelOf B)) → All (IsMapUnopened kind kept filters device) maps → All (IsMapReady kind kept filters) maps
-map-ready-unopened kind kept filters device maps each = λ slot other there.
-    let u = each slot other there in
-    record { kinds = u.kinds; planned = λ used. u.planned; stands = record { bytes = []; stands = u.stands } }
 
 -- they stand for the beginning
 map_starts : {B : Type 0} (kind : B → Kind) (kept : B → Kept) (filters : Filters) (device : Device) (slot : ℕ) (channel : MapChannelOf B) → IsMapUnopened kind kept filters device channel
@@ -141,12 +128,6 @@ parent-starts kind kept filters device parent descriptors limits unopened =
     (unopened_stands kind kept filters device parent descriptors limits unopened)
 
 -- ---- channels that record
-
--- channels that nobody has opened are ready
-pub record-ready-unopened : {B : Type 0} (kind : B → Kind) (kept : B → Kept) (filters : Filters) (device : Device) (recorders : List (RecordChannelOf B)) → All (IsRecordUnopened kind kept filters device) recorders → All (IsRecordReady kind kept filters) recorders
-record-ready-unopened kind kept filters device recorders each = λ slot other there.
-    let u = each slot other there in
-    record { kinds = u.kinds; planned = λ used. u.planned; stands = record { bytes = []; frames = []; stands = u.stands } }
 
 -- they stand for the beginning
 pub recorders-start : {B : Type 0} (kind : B → Kind) (kept : B → Kept) (filters : Filters) (device : Device) (pool : Pool) (recorders : List (RecordChannelOf B)) → IsDevice (seen filters device) → All (IsRecordUnopened kind kept filters device) recorders

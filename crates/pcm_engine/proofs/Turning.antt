@@ -1,10 +1,9 @@
 -- What becomes of a desk whose parent lent one channel.
-use Rattle.std.proofs.Common.{Ok, Err, ◌≡◌, ◌+◌, ◌-◌, ℕ, ◌<◌, ◌≤◌, false, cond, eqb, List, length, get_or, min, take, drop, Option, Some, None, Result, refl, sym, ap, ◌∙◌, subst, arith, Bool, true}
+use Rattle.std.proofs.Common.{Ok, Err, ◌≡◌, ◌+◌, ◌-◌, ℕ, ◌<◌, ◌≤◌, false, cond, eqb, List, length, get_or, min, take, drop, Option, Some, None, Result, refl, sym, ap, ◌∙◌, arith, Bool, true}
 use Rattle.std.specs.Prelude.{IsOk, is_some, not}
 use Rattle.std.proofs.lemmas.List.{length-map}
 use Rattle.pcm_oss.specs.declared.event.Way.{Way}
 use Rattle.pcm_oss.specs.declared.event.TheConstants.{SLOTS}
-use Rattle.pcm_sequence.specs.Fixed.{fixed_len}
 use Rattle.pcm_sequence.proofs.Items.{items-count}
 use Rattle.pcm_oss.specs.declared.event.Way.TheVariants.{Play, Record, Map}
 use Rattle.pcm_oss.specs.declared.reply.Answer.{Answer}
@@ -21,9 +20,9 @@ use Rattle.pcm_desk.specs.declared.turn.Turn.{Turn}
 use Rattle.pcm_desk.specs.declared.map_book.MapBook.{MapBook}
 use Rattle.pcm_desk.specs.RunStates.{is_unheld}
 use Rattle.pcm_desk.specs.RecordBooks.{record_fill_of}
-use Rattle.pcm_desk.specs.Channels.{Mapped, Playing, Recording, by_way, may_be_held}
+use Rattle.pcm_desk.specs.Channels.{Mapped, Playing, Recording, by_way}
 use Rattle.pcm_desk.specs.Desk.{Desk, DeskTurn, held_by, map_at, map_unopened, open_turn, play_at, play_unopened, record_at, record_unopened, refusing, slot_number, with_descriptor, after, channel_at, channel_turn, least_free, leaving, open_at, opened_at, with_channel_at}
-use Rattle.pcm_desk.specs.Own.{HoldApart, slots_of}
+use Rattle.pcm_desk.specs.Own.{HoldApart}
 use Rattle.pcm_sound.specs.Areas.{holds_map}
 use Rattle.pcm_play.specs.declared.channel.PlayChannelOf.{PlayChannelOf}
 use Rattle.pcm_record.specs.declared.channel.RecordChannelOf.{RecordChannelOf}
@@ -36,16 +35,15 @@ use Rattle.pcm_vchan.specs.Lending.{with_channel, with_map_channel, with_recorde
 use Rattle.pcm_bus.proofs.Channels.{map_at-channel, play_at-channel}
 use Rattle.pcm_vchan.proofs.Channels.{map_books_of-set, play_books_of-set, record_at-channel, record_books_of-set}
 use Rattle.pcm_engine.specs.declared.descriptors.Descriptors.{Descriptors}
+use Rattle.pcm_engine.specs.Answered.{IsSlotThere}
 use Rattle.pcm_engine.specs.Descriptors.{holding, is_way, shut, slot_of}
-use Rattle.pcm_desk.specs.declared.here.Here.{Here}
-use Rattle.pcm_engine.specs.Desks.{desk_with, channel_asked, closed_held, turn_on, TakesTurn, TakesTurnAt}
+use Rattle.pcm_engine.specs.Desks.{desk_with, channel_asked, closed_held}
 use Rattle.pcm_engine.specs.Steps.{bytes_read, channel_read}
 use Rattle.pcm_desk.proofs.Channels.{put-again}
 use Rattle.pcm_oss.specs.declared.event.Event.{Event}
 use Rattle.pcm_oss.specs.declared.event.Event.TheVariants.{Close, Poke, Read, Write}
 use Rattle.pcm_oss.specs.declared.request.Request.{Request}
 use Rattle.pcm_wave.specs.declared.pool.Source.{Source}
-use Rattle.pcm_wave.specs.declared.pool.Source.TheVariants.{Inline}
 
 -- ---- where a descriptor's channel is
 
@@ -53,39 +51,27 @@ use Rattle.pcm_wave.specs.declared.pool.Source.TheVariants.{Inline}
 abbrev pub channel_of : Way → ℕ → Held
 channel_of way slot = record { way = way; slot = slot }
 
--- what a descriptor holds, of a way that is known
-pub found-way : (way : Way) (found : Option Held) (held : Held) → found ≡ Some held → held.way ≡ way → found ≡ Some (channel_of way held.slot)
-found-way way found held e is = e ∙ ap (λ (w : Way). Some (channel_of w held.slot)) is
-
 -- what a descriptor is refused for, and what it holds where it isn't
 pub holding-is : (found : Option Held) (held : Held) → holding found ≡ Ok held → found ≡ Some held
 holding-is None held e = cc
-holding-is (Some h) held e = let same : Ok h ≡ Ok held = e in ap (λ (r : Result Held Errno). some_of r) same
-  where
-    some_of : Result Held Errno → Option Held
-    some_of (Ok x) = Some x
-    some_of (Err errno) = None
+holding-is (Some h) held e = cc
 
-abbrev errno_in : {X : Type 0} → Result X Errno → Errno
-errno_in (Ok x) = BadF
-errno_in (Err errno) = errno
+-- of a way that is known
+pub held-as : (way : Way) (found : Option Held) (held : Held) → holding found ≡ Ok held → held.way ≡ way → found ≡ Some (channel_of way held.slot)
+held-as way found held e is = holding-is found held e ∙ ap (λ (w : Way). Some (channel_of w held.slot)) is
 
 pub holding-not : (device : DeviceSeen) (desk : Desk) (event : Event) (found : Option Held) (errno : Errno) → holding found ≡ Err errno → channel_turn device desk event found ≡ refusing desk errno
-holding-not device desk event None errno e = ap (λ (r : Result Held Errno). refusing desk (errno_in r)) e
+holding-not device desk event None errno e = let same : BadF ≡ errno = cc in ap (refusing desk) same
 holding-not device desk event (Some held) errno e = cc
 
 pub ask-not : (device : DeviceSeen) (desk : Desk) (request : Request) (found : Option Held) (errno : Errno) → holding found ≡ Err errno → channel_asked device desk request found ≡ refusing desk errno
-ask-not device desk request None errno e = ap (λ (r : Result Held Errno). refusing desk (errno_in r)) e
+ask-not device desk request None errno e = let same : BadF ≡ errno = cc in ap (refusing desk) same
 ask-not device desk request (Some held) errno e = cc
 
-abbrev slot_in : Result ℕ Errno → ℕ
-slot_in (Ok slot) = slot
-slot_in (Err errno) = 0
-
 slot_way : (way other : Way) (at slot : ℕ) → cond (is_way way other) (Ok at) (Err Inval) ≡ Ok slot → channel_of other at ≡ channel_of way slot
-slot_way Play Play at slot e = ap (channel_of Play) (ap slot_in e)
-slot_way Record Record at slot e = ap (channel_of Record) (ap slot_in e)
-slot_way Map Map at slot e = ap (channel_of Map) (ap slot_in e)
+slot_way Play Play at slot e = let same : at ≡ slot = cc in ap (channel_of Play) same
+slot_way Record Record at slot e = let same : at ≡ slot = cc in ap (channel_of Record) same
+slot_way Map Map at slot e = let same : at ≡ slot = cc in ap (channel_of Map) same
 slot_way way other at slot e = cc
 
 pub slot-is : (way : Way) (found : Option Held) (slot : ℕ) → slot_of way found ≡ Ok slot → found ≡ Some (channel_of way slot)
@@ -100,12 +86,12 @@ refuses device desk held = ap (λ (d : Desk). refusing d Inval) (put-again devic
 
 refused_by : (device : DeviceSeen) (desk : Desk) (event : Event) (way : Way) (found : Option Held) (errno : Errno) → ((held : Held) → is_way way held.way ≡ false → channel_turn device desk event (Some held) ≡ refusing desk Inval)
     → slot_of way found ≡ Err errno → channel_turn device desk event found ≡ refusing desk errno
-refused_by device desk event way None errno others e = ap (λ (r : Result ℕ Errno). refusing desk (errno_in r)) e
+refused_by device desk event way None errno others e = let same : BadF ≡ errno = cc in ap (refusing desk) same
 refused_by device desk event way (Some held) errno others e = at (is_way way held.way) refl e
   where
     at : (b : Bool) → is_way way held.way ≡ b → cond b (Ok held.slot) (Err Inval) ≡ Err errno → channel_turn device desk event (Some held) ≡ refusing desk errno
     at true is e = cc
-    at false is e = others held is ∙ ap (λ (r : Result ℕ Errno). refusing desk (errno_in r)) e
+    at false is e = let same : Inval ≡ errno = cc in others held is ∙ ap (refusing desk) same
 
 pub write-refused : (device : DeviceSeen) (desk : Desk) (fd : ℕ) (source : Source) (at count : ℕ) (found : Option Held) (errno : Errno) → slot_of Play found ≡ Err errno → channel_turn device desk (Write fd source at count) found ≡ refusing desk errno
 write-refused device desk fd source at count found errno = refused_by device desk (Write fd source at count) Play found errno (λ held. other held.way held.slot)
@@ -128,74 +114,36 @@ read-refused device desk fd count found errno = refused_by device desk (Read fd 
     other Record slot is = cc
     other way slot is = refuses device desk (channel_of way slot)
 
--- of the bytes of a write and a poke only their number counts
-pub write-turn : {B : Type 0} {here : Here} {old new : ParentOf B} {descriptors : Descriptors} {result : Result Answer Errno} (fd : ℕ) (bytes : List ℕ) {count : ℕ} → length bytes ≡ count → TakesTurnAt here (turn_on (Write fd Inline 0 (length bytes))) old new descriptors result
-    → TakesTurnAt here (turn_on (Write fd Inline 0 count)) old new descriptors result
-write-turn {B} {here} {old} {new} {descriptors} {result} fd bytes long turn = subst (λ (n : ℕ). TakesTurnAt here (turn_on (Write fd Inline 0 n)) old new descriptors result) long turn
-
-pub poke-turn : {B : Type 0} {old new : ParentOf B} {descriptors : Descriptors} {result : Result Answer Errno} (fd offset : ℕ) (bytes : List ℕ) {count : ℕ} → length bytes ≡ count → TakesTurn (turn_on (Poke fd offset 0 (length bytes))) old new descriptors result
-    → TakesTurn (turn_on (Poke fd offset 0 count)) old new descriptors result
-poke-turn {B} {old} {new} {descriptors} {result} fd offset bytes long turn = subst (λ (n : ℕ). TakesTurn (turn_on (Poke fd offset 0 n)) old new descriptors result) long turn
-
 -- ---- the slots of a parent
 
-slot_there : {B : Type 0} (way : Way) (parent : ParentOf B) (descriptors : Descriptors) (fd : ℕ) (held : Held) → HoldApart (desk_with parent descriptors) → held_by (desk_with parent descriptors) fd ≡ Some held → held.way ≡ way
-    → held.slot < slots_of (desk_with parent descriptors) way
-slot_there way parent descriptors fd held h e is = subst (λ (w : Way). held.slot < slots_of (desk_with parent descriptors) w) is (h.within fd held e)
+-- the slot that a descriptor holds is there
+pub play-there : {B : Type 0} (parent : ParentOf B) (descriptors : Descriptors) (fd slot : ℕ) → HoldApart (desk_with parent descriptors) → held_by (desk_with parent descriptors) fd ≡ Some (channel_of Play slot) → slot < length (play_channels parent)
+play-there {B = B} parent descriptors fd slot h e = let there = h.within fd (channel_of Play slot) e in omega (arith, length-map (play_channels parent) (λ (c : PlayChannelOf B). c.book))
 
-pub play-there : {B : Type 0} (parent : ParentOf B) (descriptors : Descriptors) (fd : ℕ) (held : Held) → HoldApart (desk_with parent descriptors) → held_by (desk_with parent descriptors) fd ≡ Some held → held.way ≡ Play
-    → held.slot < length (play_channels parent)
-play-there {B = B} parent descriptors fd held h e is =
-    let there = slot_there Play parent descriptors fd held h e is in
-    omega (arith, length-map (play_channels parent) (λ (c : PlayChannelOf B). c.book))
+pub record-there : {B : Type 0} (parent : ParentOf B) (descriptors : Descriptors) (fd slot : ℕ) → HoldApart (desk_with parent descriptors) → held_by (desk_with parent descriptors) fd ≡ Some (channel_of Record slot) → slot < length (record_channels parent)
+record-there {B = B} parent descriptors fd slot h e = let there = h.within fd (channel_of Record slot) e in omega (arith, length-map (record_channels parent) (λ (c : RecordChannelOf B). c.book))
 
-pub record-there : {B : Type 0} (parent : ParentOf B) (descriptors : Descriptors) (fd : ℕ) (held : Held) → HoldApart (desk_with parent descriptors) → held_by (desk_with parent descriptors) fd ≡ Some held → held.way ≡ Record
-    → held.slot < length (record_channels parent)
-record-there {B = B} parent descriptors fd held h e is =
-    let there = slot_there Record parent descriptors fd held h e is in
-    omega (arith, length-map (record_channels parent) (λ (c : RecordChannelOf B). c.book))
+pub map-there : {B : Type 0} (parent : ParentOf B) (descriptors : Descriptors) (fd slot : ℕ) → HoldApart (desk_with parent descriptors) → held_by (desk_with parent descriptors) fd ≡ Some (channel_of Map slot) → slot < length (map_channels parent)
+map-there {B = B} parent descriptors fd slot h e = let there = h.within fd (channel_of Map slot) e in omega (arith, length-map (map_channels parent) (λ (c : MapChannelOf B). c.book))
 
-pub map-there : {B : Type 0} (parent : ParentOf B) (descriptors : Descriptors) (fd : ℕ) (held : Held) → HoldApart (desk_with parent descriptors) → held_by (desk_with parent descriptors) fd ≡ Some held → held.way ≡ Map
-    → held.slot < length (map_channels parent)
-map-there {B = B} parent descriptors fd held h e is =
-    let there = slot_there Map parent descriptors fd held h e is in
-    omega (arith, length-map (map_channels parent) (λ (c : MapChannelOf B). c.book))
-
--- the slot that a descriptor is asked for is there
-pub play-found : {B : Type 0} (parent : ParentOf B) (descriptors : Descriptors) (fd slot : ℕ) → HoldApart (desk_with parent descriptors) → slot_of Play (held_by (desk_with parent descriptors) fd) ≡ Ok slot → slot < length (play_channels parent)
-play-found parent descriptors fd slot h e = play-there parent descriptors fd (channel_of Play slot) h (slot-is Play (held_by (desk_with parent descriptors) fd) slot e) refl
-
-pub record-found : {B : Type 0} (parent : ParentOf B) (descriptors : Descriptors) (fd slot : ℕ) → HoldApart (desk_with parent descriptors) → slot_of Record (held_by (desk_with parent descriptors) fd) ≡ Ok slot → slot < length (record_channels parent)
-record-found parent descriptors fd slot h e = record-there parent descriptors fd (channel_of Record slot) h (slot-is Record (held_by (desk_with parent descriptors) fd) slot e) refl
-
-pub map-found : {B : Type 0} (parent : ParentOf B) (descriptors : Descriptors) (fd slot : ℕ) → HoldApart (desk_with parent descriptors) → slot_of Map (held_by (desk_with parent descriptors) fd) ≡ Ok slot → slot < length (map_channels parent)
-map-found parent descriptors fd slot h e = map-there parent descriptors fd (channel_of Map slot) h (slot-is Map (held_by (desk_with parent descriptors) fd) slot e) refl
-
--- and so is the one that it holds
-held-there : {B : Type 0} (parent : ParentOf B) (descriptors : Descriptors) (fd : ℕ) (held : Held) → HoldApart (desk_with parent descriptors) → held_by (desk_with parent descriptors) fd ≡ Some held
-    → (held.way ≡ Play → held.slot < fixed_len parent.channels) × (held.way ≡ Record → held.slot < fixed_len parent.recorders) × (held.way ≡ Map → held.slot < fixed_len parent.maps)
-held-there parent descriptors fd held h e = (
-  λ is. (let there = play-there parent descriptors fd held h e is in omega (arith, there, items-count parent.channels)),
-  λ is. (let there = record-there parent descriptors fd held h e is in omega (arith, there, items-count parent.recorders)),
-  λ is. (let there = map-there parent descriptors fd held h e is in omega (arith, there, items-count parent.maps)),
-)
+-- so is that of a descriptor which is found open
+pub open-there : {B : Type 0} (parent : ParentOf B) (descriptors : Descriptors) (fd : ℕ) (held : Held) → HoldApart (desk_with parent descriptors) → holding (held_by (desk_with parent descriptors) fd) ≡ Ok held → IsSlotThere held parent
+open-there parent descriptors fd held h e =
+    let found : Option Held = held_by (desk_with parent descriptors) fd in
+    record {
+      play = λ is. (let there = play-there parent descriptors fd held.slot h (held-as Play found held e is) in omega (arith, there, items-count parent.channels));
+      recording = λ is. (let there = record-there parent descriptors fd held.slot h (held-as Record found held e is) in omega (arith, there, items-count parent.recorders));
+      mapped = λ is. (let there = map-there parent descriptors fd held.slot h (held-as Map found held e is) in omega (arith, there, items-count parent.maps));
+    }
 
 -- there are few slots of each way
-pub held-few : {B : Type 0} (parent : ParentOf B) (descriptors : Descriptors) (fd : ℕ) (held : Held) → HoldApart (desk_with parent descriptors) → held_by (desk_with parent descriptors) fd ≡ Some held → held.slot < SLOTS
-held-few parent descriptors fd held h e = at held.way refl
+pub open-few : {B : Type 0} (parent : ParentOf B) (descriptors : Descriptors) (fd : ℕ) (held : Held) → HoldApart (desk_with parent descriptors) → holding (held_by (desk_with parent descriptors) fd) ≡ Ok held → held.slot < SLOTS
+open-few parent descriptors fd held h e = at held.way refl
   where
     at : (way : Way) → held.way ≡ way → held.slot < SLOTS
-    at Play is = let below = (held-there parent descriptors fd held h e).0 is in omega (arith, below, parent.slots, parent.slots_within)
-    at Record is = let below = (held-there parent descriptors fd held h e).1 is in omega (arith, below, parent.recorders_count, parent.recorders_within)
-    at Map is = let below = (held-there parent descriptors fd held h e).2 is in omega (arith, below, parent.maps_count, parent.slots_within)
-
--- so are they of a descriptor that is found open
-pub open-there : {B : Type 0} (parent : ParentOf B) (descriptors : Descriptors) (fd : ℕ) (held : Held) → HoldApart (desk_with parent descriptors) → holding (held_by (desk_with parent descriptors) fd) ≡ Ok held
-    → (held.way ≡ Play → held.slot < fixed_len parent.channels) × (held.way ≡ Record → held.slot < fixed_len parent.recorders) × (held.way ≡ Map → held.slot < fixed_len parent.maps)
-open-there parent descriptors fd held h e = held-there parent descriptors fd held h (holding-is (held_by (desk_with parent descriptors) fd) held e)
-
-pub open-few : {B : Type 0} (parent : ParentOf B) (descriptors : Descriptors) (fd : ℕ) (held : Held) → HoldApart (desk_with parent descriptors) → holding (held_by (desk_with parent descriptors) fd) ≡ Ok held → held.slot < SLOTS
-open-few parent descriptors fd held h e = held-few parent descriptors fd held h (holding-is (held_by (desk_with parent descriptors) fd) held e)
+    at Play is = let below = (open-there parent descriptors fd held h e).play is in omega (arith, below, parent.slots, parent.slots_within)
+    at Record is = let below = (open-there parent descriptors fd held h e).recording is in omega (arith, below, parent.recorders_count, parent.recorders_within)
+    at Map is = let below = (open-there parent descriptors fd held h e).mapped is in omega (arith, below, parent.maps_count, parent.slots_within)
 
 -- ---- channels that play
 
@@ -236,12 +184,11 @@ turn-mapped device turn parent descriptors slot lent new answer there is changed
 )
 
 -- one that a descriptor holds isn't free
-pub map-unfree : {B : Type 0} (device : DeviceSeen) (parent : ParentOf B) (descriptors : Descriptors) (fd : ℕ) (held : Held) (lent : MapChannelOf B) → HoldApart (desk_with parent descriptors) → held_by (desk_with parent descriptors) fd ≡ Some held → held.way ≡ Map
-    → held.slot < length (map_channels parent) → lent ≡ get_or (map_channels parent) held.slot lent → is_unheld lent.book.state ≡ false
-map-unfree device parent descriptors fd held lent h e is there lent_is =
-    let desk : Desk = desk_with parent descriptors in
-    ap (λ (b : MapBook). is_unheld b.state) (map_at-channel (map_channels parent) held.slot lent (map_unopened device) there lent_is)
-    ∙ not-true (is_unheld (map_at device desk held.slot).state) (ap (λ (w : Way). may_be_held (channel_at device desk (channel_of w held.slot))) (sym is) ∙ h.taken fd held device e)
+pub map-unfree : {B : Type 0} (device : DeviceSeen) (parent : ParentOf B) (descriptors : Descriptors) (fd slot : ℕ) (lent : MapChannelOf B) → HoldApart (desk_with parent descriptors) → held_by (desk_with parent descriptors) fd ≡ Some (channel_of Map slot)
+    → slot < length (map_channels parent) → lent ≡ get_or (map_channels parent) slot lent → is_unheld lent.book.state ≡ false
+map-unfree device parent descriptors fd slot lent h e there lent_is =
+    ap (λ (b : MapBook). is_unheld b.state) (map_at-channel (map_channels parent) slot lent (map_unopened device) there lent_is)
+    ∙ not-true (is_unheld (map_at device (desk_with parent descriptors) slot).state) (h.taken fd (channel_of Map slot) device e)
   where
     not-true : (b : Bool) → not b ≡ true → b ≡ false
     not-true true e = cc
@@ -268,14 +215,14 @@ pub slot-found : (way : Way) (slots : ℕ) (least : Option ℕ) (told : ℕ) →
     → (least ≡ Some (slot_place slots way told)) × (slot_number slots way (slot_place slots way told) ≡ told)
 slot-found way slots None told e = cc
 slot-found Map slots (Some place) told e =
-    let same : slots + place ≡ told = ap slot_in e in
+    let same : slots + place ≡ told = cc in
     let back : place ≡ told - slots = omega arith in
     (ap Some back, omega (arith, same))
-slot-found way slots (Some place) told e = (ap (λ (r : Result ℕ Errno). Some (slot_in r)) e, refl)
+slot-found way slots (Some place) told e = (cc, refl)
 
 -- it is numbered after those that play, where it is mapped
 pub told-behind : (way : Way) (slots : ℕ) (least : Option ℕ) (told : ℕ) → slot_or_busy (slot_number slots way) least ≡ Ok told → way ≡ Map → slots ≤ told
-told-behind Map slots (Some place) told e is = let same : slots + place ≡ told = ap slot_in e in omega arith
+told-behind Map slots (Some place) told e is = let same : slots + place ≡ told = cc in omega arith
 told-behind way slots least told e is = cc
 
 -- what an open makes of a desk

@@ -1,6 +1,7 @@
 -- What one event leaves of a parent and descriptors.
 use Rattle.std.specs.Prelude.{◌≡◌, ℕ, ℤ, List, IsErr, length}
 use Rattle.pcm_oss.specs.declared.event.Event.{Event}
+use Rattle.pcm_oss.specs.declared.event.Event.TheVariants.{Read, Intr}
 use Rattle.pcm_oss.specs.Replies.{Reply}
 use Rattle.pcm_format.specs.Frames.{Frame}
 use Rattle.pcm_feeder.specs.declared.kind.Kind.{Kind}
@@ -15,6 +16,12 @@ use Rattle.pcm_engine.specs.declared.descriptors.Descriptors.{Descriptors}
 use Rattle.pcm_engine.specs.Desks.{desk_with}
 use Rattle.pcm_engine.specs.Invariants.{AreOwn}
 use Rattle.pcm_engine.specs.Steps.{BusMoves, ChannelsMove, MapsMove, RecordersMove, bytes_answered}
+
+-- an event is answered by the rules alone: it gets no bytes, and the device takes no frames by it
+abbrev pub IsAnsweredAlone : Event → Type 0
+IsAnsweredAlone (Read fd count) = ⊥
+IsAnsweredAlone (Intr n) = ⊥
+IsAnsweredAlone event = Unit {0}
 
 -- By these filters the desk and the reply are those of the rules, and so are the bytes of the reply, whatever the channels stand for. A
 -- refusal changes nothing.

@@ -5,7 +5,6 @@ use Rattle.pcm_feeder.specs.declared.kind.Kind.{Kind}
 use Rattle.pcm_feeder.specs.Filters.{Filters}
 use Rattle.pcm_feeder.specs.Kept.{Kept}
 use Rattle.pcm_oss.specs.declared.event.Event.{Event}
-use Rattle.pcm_oss.specs.declared.event.Event.TheVariants.{Close}
 use Rattle.pcm_oss.specs.declared.reply.Answer.{Answer}
 use Rattle.pcm_oss.specs.declared.reply.Errno.{Errno}
 use Rattle.pcm_oss.specs.declared.reply.Errno.TheVariants.{BadF}
@@ -63,11 +62,7 @@ closed_held device desk held = with_channel_at desk held.slot (own_close device 
 
 -- ---- what a call makes of parent and descriptors
 
--- by these filters the desk becomes that of a turn
-abbrev pub TurnsBy : {B : Type 0} → Filters → (DeviceSeen → Desk → DeskTurn) → ParentOf B → ParentOf B → Descriptors → Type 0
-TurnsBy filters turn old new descriptors = desk_with new descriptors ≡ (turn (seen filters old.device) (desk_with old descriptors)).desk
-
--- and the reply is that of a turn
+-- by these filters the reply is that of a turn
 abbrev pub RepliesBy : {B : Type 0} → Filters → (DeviceSeen → Desk → DeskTurn) → ParentOf B → Descriptors → Result Answer Errno → Type 0
 RepliesBy filters turn parent descriptors result = result ≡ (turn (seen filters parent.device) (desk_with parent descriptors)).reply
 
@@ -75,33 +70,11 @@ RepliesBy filters turn parent descriptors result = result ≡ (turn (seen filter
 abbrev pub ChangesBy : {B : Type 0} → Filters → (DeviceSeen → Desk → DeskTurn) → ParentOf B → Descriptors → ParentOf B → Descriptors → Type 0
 ChangesBy filters turn old before new after = desk_with new after ≡ (turn (seen filters old.device) (desk_with old before)).desk
 
--- by whichever filters
-abbrev pub Turns : {B : Type 0} → (DeviceSeen → Desk → DeskTurn) → ParentOf B → ParentOf B → Descriptors → Type 0
-Turns turn old new descriptors = (filters : Filters) → TurnsBy filters turn old new descriptors
-
-abbrev pub Replies : {B : Type 0} → (DeviceSeen → Desk → DeskTurn) → ParentOf B → Descriptors → Result Answer Errno → Type 0
-Replies turn parent descriptors result = (filters : Filters) → RepliesBy filters turn parent descriptors result
-
 -- by these filters the mix and the device of a parent are here
 abbrev pub IsAt : {B : Type 0} → Filters → Here → ParentOf B → Type 0
 IsAt filters here parent = here ≡ here_at (seen filters parent.device) parent.handed
 
--- a call where the mix and the device are takes a turn by their filters
-pub record TakesTurnAt {B : Type 0} (here : Here) (turn : DeviceSeen → Desk → DeskTurn) (old new : ParentOf B) (descriptors : Descriptors) (result : Result Answer Errno) : Type 0 where
-  pub desk : (filters : Filters) → IsAt filters here old → TurnsBy filters turn old new descriptors
-  pub reply : (filters : Filters) → IsAt filters here old → RepliesBy filters turn old descriptors result
-
--- a call takes a turn: the desk becomes that of the turn, and so is the reply
-pub record TakesTurn {B : Type 0} (turn : DeviceSeen → Desk → DeskTurn) (old new : ParentOf B) (descriptors : Descriptors) (result : Result Answer Errno) : Type 0 where
-  pub desk : Turns turn old new descriptors
-  pub reply : Replies turn old descriptors result
-
--- a close shuts a descriptor, by whichever filters the channels are ready, and the mix and the device are here
-abbrev pub Closes : {B : Type 0} → (B → Kind) → (B → Kept) → Here → ℕ → ParentOf B → Descriptors → ParentOf B → Descriptors → Type 0
-Closes kind kept here fd old descriptors new shut = (filters : Filters) → All (IsPlayReady kind kept filters) (play_channels old) → IsAt filters here old
-    → desk_with new shut ≡ (after (seen filters old.device) (desk_with old descriptors) (Close fd)).desk
-
--- so it is of the channel alone, whatever the descriptors are
+-- a channel is closed, by whichever filters the channels are ready, and the mix and the device are here, whatever the descriptors are
 abbrev pub ClosesHeld : {B : Type 0} → (B → Kind) → (B → Kept) → Here → Held → ParentOf B → ParentOf B → Type 0
 ClosesHeld kind kept here held old new = (filters : Filters) (descriptors : Descriptors) → All (IsPlayReady kind kept filters) (play_channels old) → IsAt filters here old
     → desk_with new descriptors ≡ closed_held (seen filters old.device) (desk_with old descriptors) held

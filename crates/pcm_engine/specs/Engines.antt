@@ -27,8 +27,9 @@ use Rattle.pcm_sound.specs.Story.{story_of}
 use Rattle.pcm_sound.specs.StoryReplies.{reply_to}
 use Rattle.pcm_sound.specs.Together.{StartAsOne}
 use Rattle.pcm_engine.specs.declared.engine.EngineOf.{EngineOf}
+use Rattle.pcm_engine.specs.declared.limits.TheConstants.{LIFE}
 use Rattle.pcm_play.specs.Channels.{IsPlayReady}
-use Rattle.pcm_engine.specs.Brought.{IsCalled, samples_asked}
+use Rattle.pcm_engine.specs.Brought.{IsAllowed, IsCalled, bytes_asked, samples_asked}
 use Rattle.pcm_engine.specs.Desks.{desk_with}
 use Rattle.pcm_record.specs.Channels.{IsRecordReady}
 use Rattle.pcm_map.specs.Channels.{IsMapReady}
@@ -174,6 +175,18 @@ pub record AreReady {B : Type 0} (kind : B → Kind) (kept : B → Kept) (engine
   pub maps : MapBooksAreSafe (device_of engine) (desk_of engine)
   pub members : MembersWait (device_of engine) (desk_of engine)
   pub rings : RingsHold engine
+
+-- An engine can step on an event: it is ready, its life has as many frames left as the event gives to the device, and there is room for their bytes.
+pub record CanStep {B : Type 0} (kind : B → Kind) (kept : B → Kept) (engine : EngineOf B) (event : Event) (out : List ℕ) : Type 0 where
+  pub ready : AreReady kind kept engine
+  pub room : bytes_handed (device_of engine) event ≤ length out
+  pub life : engine.parent.handed + frames_taken event ≤ LIFE
+
+-- And so it can on one that keeps the limits of the device, and comes with as many bytes as it names.
+pub record CanStepWith {B : Type 0} (kind : B → Kind) (kept : B → Kept) (engine : EngineOf B) (event : Event) (brought out : List ℕ) : Type 0 where
+  pub within : IsAllowed (device_of engine) event
+  pub bytes : length brought ≡ bytes_asked event
+  pub step : CanStep kind kept engine event out
 
 -- All is as before: channels with their books, rings and chains, descriptors, the device's ring and counts.
 pub record IsUnchanged {B : Type 0} (old new : EngineOf B) : Type 0 where

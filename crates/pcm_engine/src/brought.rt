@@ -84,8 +84,7 @@ pub fn pad(samples: &[i32], count: usize, captured: &mut [i32])
 
 fn fill_padded(samples: &[i32], captured: &mut [i32])
     requires { length samples.now ≤ length captured.old }
-    ensures length { length captured.new ≡ length captured.old }
-    ensures padded { captured.new ≡ padded (length captured.old) samples.now }
+    ensures { captured.new ≡ padded (length captured.old) samples.now }
 {
     let (front, rest) = captured.split_at_mut(samples.len());
     front.copy_from_slice(samples);

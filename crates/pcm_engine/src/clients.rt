@@ -1,22 +1,19 @@
 //! What clients ask by their descriptors.
 
 ghost use Rattle.std.specs.Borrow.{sem};
-ghost use Rattle.std.specs.Prelude.{◌≡◌, ◌+◌, ◌^◌, ◌<◌, ◌≤◌, [], length, All, IsErr, OnErr, slice_index_or};
+ghost use Rattle.std.specs.Prelude.{◌≡◌, ◌<◌, ◌≤◌, [], length, slice_index_or};
 ghost use Rattle.pcm_sequence.specs.Fixed.{fixed_len};
 ghost use Rattle.pcm_feeder.specs.Filters.{Filters};
 ghost use Rattle.pcm_feeder.specs.Limits.{IsRate};
 ghost use Rattle.pcm_oss.specs.declared.event.Event.TheVariants.{Open, Write, Poke, Read, Close};
-ghost use Rattle.pcm_oss.specs.declared.event.Way.TheVariants.{Play, Record, Map};
 ghost use Rattle.pcm_oss.specs.Replies.{bytes_due};
 ghost use Rattle.pcm_wave.specs.declared.pool.Source.TheVariants.{Inline};
 ghost use Rattle.pcm_oss.specs.declared.reply.TheConstants.{REPLY_BYTES};
 ghost use Rattle.pcm_desk.specs.declared.limits.TheConstants.{DESCRIPTORS, READ_BYTES};
-ghost use Rattle.pcm_desk.specs.Own.{HoldApart};
 ghost use Rattle.pcm_vchan.specs.Lending.{LendsMapAt};
-ghost use Rattle.pcm_vchan.specs.Parents.{map_channels, play_channels, untouched, AreClosable, AreServed, TotalsFit};
-ghost use Rattle.pcm_engine.specs.Answered.{AnswersBy, CanBeAsked, LeavesParent};
-ghost use Rattle.pcm_engine.specs.Invariants.{AreOwn};
-ghost use Rattle.pcm_engine.specs.Desks.{front_due, desk_with, turn_on, ioctl_call, Closes, ClosesHeld, ReadsKept, Replies, TakesTurn, TakesTurnAt};
+ghost use Rattle.pcm_vchan.specs.Parents.{map_channels, untouched, AreServed};
+ghost use Rattle.pcm_engine.specs.Answered.{AnswersBy, AnswersWith, AsksBy, IsCalledBy, IsServed, IsSlotThere, LeavesParent, TakesBy};
+ghost use Rattle.pcm_engine.specs.Desks.{front_due, desk_with, turn_on, ioctl_call, ClosesHeld, ReadsKept};
 ghost use Rattle.pcm_engine.specs.Steps.{poked_by};
 
 use crate::descriptors::Descriptors;
@@ -57,14 +54,10 @@ pub fn write<B: Feeder>(
     bytes: &[u8],
     here: Here,
 ) -> Result<Answer, Errno>
-    requires fd { fd < DESCRIPTORS }
-    requires apart { HoldApart (desk_with parent.old descriptors.now) }
-    requires own { AreOwn parent.old }
-    requires count { All (λ c. c.book.written + length bytes.now < 2 ^ 64) (play_channels parent.old) }
-    ensures silent { bytes_due result ≡ 0 }
-    ensures refused { OnErr result (parent.new ≡ parent.old) }
-    ensures turn { TakesTurnAt here (turn_on (Write fd Inline 0 (length bytes.now))) parent.old parent.new descriptors.now result }
-    ensures leaves { (filters : Filters) → LeavesParent B.kind B.kept filters bytes.now untouched parent.old parent.new }
+    requires called { IsCalledBy B.kind B.kept fd parent.old descriptors.now }
+    ensures { (filters : Filters) → AsksBy B.kind B.kept filters here fd parent.old descriptors.now
+        → AnswersWith B.kind B.kept filters bytes.now untouched (turn_on (Write fd Inline 0 (length bytes.now)))
+        parent.old descriptors.now parent.new descriptors.now result }
 {
     let slot = descriptors.slot_of(fd, Way::Play)?;
     parent.play(slot).write(bytes, here)
@@ -78,14 +71,10 @@ pub fn poke<B: Feeder>(
     offset: u32,
     bytes: &[u8],
 ) -> Result<Answer, Errno>
-    requires fd { fd < DESCRIPTORS }
-    requires apart { HoldApart (desk_with parent.old descriptors.now) }
-    requires own { AreOwn parent.old }
-    ensures silent { bytes_due result ≡ 0 }
-    ensures refused { OnErr result (parent.new ≡ parent.old) }
-    ensures turn { TakesTurn (turn_on (Poke fd offset 0 (length bytes.now))) parent.old parent.new descriptors.now result }
-    ensures leaves { (filters : Filters) → LeavesParent B.kind B.kept filters []
-        (poked_by fd offset bytes.now (desk_with parent.old descriptors.now)) parent.old parent.new }
+    requires called { IsCalledBy B.kind B.kept fd parent.old descriptors.now }
+    ensures { (filters : Filters) → AnswersWith B.kind B.kept filters []
+        (poked_by fd offset bytes.now (desk_with parent.old descriptors.now)) (turn_on (Poke fd offset 0 (length bytes.now)))
+        parent.old descriptors.now parent.new descriptors.now result }
 {
     let slot = descriptors.slot_of(fd, Way::Map)?;
     mapped(parent, slot).poke(offset, bytes)
@@ -98,15 +87,12 @@ fn read<B: Feeder>(
     fd: u8,
     out: &mut [u8],
 ) -> Result<Answer, Errno>
-    requires fd { fd < DESCRIPTORS }
-    requires apart { HoldApart (desk_with parent.old descriptors.now) }
-    requires own { AreOwn parent.old }
-    ensures refused { OnErr result (parent.new ≡ parent.old) }
-    ensures turn { TakesTurn (turn_on (Read fd (length out.old))) parent.old parent.new descriptors.now result }
+    requires called { IsCalledBy B.kind B.kept fd parent.old descriptors.now }
+    ensures takes { (filters : Filters) → TakesBy B.kind B.kept filters [] untouched (turn_on (Read fd (length out.old)))
+        parent.old descriptors.now parent.new descriptors.now result }
     ensures within { bytes_due result ≤ length out.old }
     ensures length { length out.new ≡ length out.old }
     ensures bytes { ReadsKept B.kept parent.old descriptors.now fd (length out.old) (front_due result out.new) }
-    ensures leaves { (filters : Filters) → LeavesParent B.kind B.kept filters [] untouched parent.old parent.new }
 {
     let slot = descriptors.slot_of(fd, Way::Record)?;
     parent.recorder(slot).read(out)
@@ -122,15 +108,12 @@ pub fn answer_read<B: Feeder>(
     bytes: &mut [u8],
     reply: &mut ReplyBuf,
 )
-    requires fd { fd < DESCRIPTORS }
+    requires called { IsCalledBy B.kind B.kept fd parent.old descriptors.now }
     requires few { len ≤ READ_BYTES }
     requires room { length bytes.old ≡ REPLY_BYTES }
-    requires apart { HoldApart (desk_with parent.old descriptors.now) }
-    requires own { AreOwn parent.old }
-    ensures refused { IsErr reply.new.result → parent.new ≡ parent.old }
-    ensures turn { TakesTurn (turn_on (Read fd len)) parent.old parent.new descriptors.now reply.new.result }
+    ensures takes { (filters : Filters) → TakesBy B.kind B.kept filters [] untouched (turn_on (Read fd len))
+        parent.old descriptors.now parent.new descriptors.now reply.new.result }
     ensures bytes { ReadsKept B.kept parent.old descriptors.now fd len reply.new.bytes }
-    ensures leaves { (filters : Filters) → LeavesParent B.kind B.kept filters [] untouched parent.old parent.new }
 {
     let answer = read(parent, descriptors, fd, &mut bytes[..len as usize]);
     reply.keep(answer, bytes);
@@ -145,9 +128,7 @@ pub fn ask<B: Feeder>(
     request: Request,
     here: Here,
 ) -> Result<Answer, Errno>
-    requires fd { fd < DESCRIPTORS }
-    requires apart { HoldApart (desk_with parent.old descriptors.now) }
-    requires able { CanBeAsked B.kind B.kept tables.now here parent.old }
+    requires asks { AsksBy B.kind B.kept tables.now here fd parent.old descriptors.now }
     ensures { AnswersBy B.kind B.kept tables.now (ioctl_call fd request)
         parent.old descriptors.now parent.new descriptors.now result }
 {
@@ -166,15 +147,9 @@ pub fn close<B: Feeder>(
     fd: u8,
     here: Here,
 ) -> Result<Answer, Errno>
-    requires fd { fd < DESCRIPTORS }
-    requires apart { HoldApart (desk_with parent.old descriptors.old) }
-    requires closable { AreClosable B.kind parent.old }
-    requires count { TotalsFit parent.old }
-    ensures silent { bytes_due result ≡ 0 }
-    ensures leaves { (filters : Filters) → LeavesParent B.kind B.kept filters [] untouched parent.old parent.new }
-    ensures refused { OnErr result ((parent.new ≡ parent.old) × (descriptors.new ≡ descriptors.old)) }
-    ensures desk { Closes B.kind B.kept here fd parent.old descriptors.old parent.new descriptors.new }
-    ensures reply { Replies (turn_on (Close fd)) parent.old descriptors.old result }
+    requires called { IsCalledBy B.kind B.kept fd parent.old descriptors.old }
+    ensures { (filters : Filters) → AsksBy B.kind B.kept filters here fd parent.old descriptors.old
+        → AnswersBy B.kind B.kept filters (turn_on (Close fd)) parent.old descriptors.old parent.new descriptors.new result }
 {
     let held = descriptors.holding(fd)?;
     let answer = close_channel(parent, held, here);
@@ -185,11 +160,8 @@ pub fn close<B: Feeder>(
 
 // Closes a channel, whatever its way.
 fn close_channel<B: Feeder>(parent: &mut ParentOf<B>, held: Held, here: Here) -> Answer
-    requires play { held.way ≡ Play → held.slot < fixed_len parent.old.channels }
-    requires recording { held.way ≡ Record → held.slot < fixed_len parent.old.recorders }
-    requires mapped { held.way ≡ Map → held.slot < fixed_len parent.old.maps }
-    requires closable { AreClosable B.kind parent.old }
-    requires count { TotalsFit parent.old }
+    requires there { IsSlotThere held parent.old }
+    requires served { IsServed B.kind B.kept parent.old }
     ensures answer { result ≡ Answer.Done }
     ensures leaves { (filters : Filters) → LeavesParent B.kind B.kept filters [] untouched parent.old parent.new }
     ensures desk { ClosesHeld B.kind B.kept here held parent.old parent.new }

@@ -1,9 +1,8 @@
 //! The engine and its events.
 
-ghost use Rattle.std.specs.Prelude.{◌≡◌, [], ◌+◌, ◌*◌, ◌≤◌, length, take, drop, IfOk};
+ghost use Rattle.std.specs.Prelude.{◌≡◌, [], ◌*◌, ◌≤◌, length, take, drop, IfOk};
 ghost use Rattle.pcm_sequence.specs.Fixed.{fixed_len};
-ghost use Rattle.pcm_engine.specs.declared.limits.TheConstants.{LIFE};
-ghost use Rattle.pcm_desk.specs.Events.{Fits, bytes_handed, frames_taken};
+ghost use Rattle.pcm_desk.specs.Events.{Fits, bytes_handed};
 ghost use Rattle.pcm_desk.specs.Device.{seen};
 ghost use Rattle.pcm_vchan.specs.Parents.{HasRacks};
 ghost use Rattle.pcm_desk.proofs.Props.{hold_props};
@@ -14,11 +13,10 @@ ghost use Rattle.pcm_oss.specs.declared.reply.TheConstants.{REPLY_BYTES};
 ghost use Rattle.pcm_format.specs.Layouts.{channels_of};
 
 use crate::brought::{bytes_brought, load_brought, pad, samples_asked};
-use crate::clients::{answer_read, close, open, poke, write};
+use crate::calls::call;
+use crate::clients::answer_read;
 use crate::descriptors::Descriptors;
-use crate::grouped::{ioctl, join, start_group};
 use crate::interrupts::interrupt;
-use crate::mixer_calls::ask_mixer;
 use pcm_desk::Device;
 use pcm_feeder::{Feeder, RacksOf, Tables};
 use pcm_oss::{Answer, Errno, Event, REPLY_BYTES, ReplyBuf};
@@ -45,9 +43,9 @@ impl<B: Feeder> EngineOf<B> {
     ghost use Rattle.pcm_wave.specs.declared.pool.Pool.{Pool};
     ghost use Rattle.pcm_wave.specs.Pools.{IsCaptureIn};
     ghost use Rattle.pcm_desk.specs.Device.{IsInLimits, device_settings};
-    ghost use Rattle.pcm_engine.specs.Brought.{bytes_asked, padded, IsAllowed};
+    ghost use Rattle.pcm_engine.specs.Brought.{padded};
     ghost use Rattle.pcm_feeder.specs.Racks.{AreRacks, list_of};
-    ghost use Rattle.pcm_engine.specs.Engines.{AreReady, HasStepped, Stands, StepsAs, StepsAsCalled, device_of, samples_at_hand, samples_most};
+    ghost use Rattle.pcm_engine.specs.Engines.{AreReady, CanStep, CanStepWith, HasStepped, Stands, StepsAs, StepsAsCalled, device_of, samples_at_hand, samples_most};
 
     /// The engine of a device with its filters, before its first event. Its channels pick their stages from the racks, one rack a slot; after
     /// a refusal the racks are dropped. All memory of the engine is taken here.
@@ -90,10 +88,8 @@ impl<B: Feeder> EngineOf<B> {
         reply: &mut ReplyBuf,
     ) -> usize
         requires fits { Fits (device_of self.old) pool.now event.now }
-        requires room { bytes_handed (device_of self.old) event.now ≤ length out.old }
         requires captures { IsCaptureIn (device_settings (device_of self.old)).layout pool.now }
-        requires life { self.old.parent.handed + frames_taken event.now ≤ LIFE }
-        requires ready { AreReady B.kind B.kept self.old }
+        requires can { CanStep B.kind B.kept self.old event.now out.old }
 
         ensures stepped { HasStepped B.kind B.kept event.now self.old self.new
             reply.new result out.old out.new }
@@ -116,12 +112,8 @@ impl<B: Feeder> EngineOf<B> {
         out: &mut [u8],
         reply: &mut ReplyBuf,
     ) -> usize
-        requires within { IsAllowed (device_of self.old) event.now }
-        requires bytes { length bytes.now ≡ bytes_asked event.now }
         requires samples { length samples.now ≤ samples_most self.old event.now }
-        requires room { bytes_handed (device_of self.old) event.now ≤ length out.old }
-        requires life { self.old.parent.handed + frames_taken event.now ≤ LIFE }
-        requires ready { AreReady B.kind B.kept self.old }
+        requires can { CanStepWith B.kind B.kept self.old event.now bytes.now out.old }
 
         ensures stepped { HasStepped B.kind B.kept event.now self.old self.new
             reply.new result out.old out.new }
@@ -143,11 +135,7 @@ impl<B: Feeder> EngineOf<B> {
 
     // Applies one event with the bytes that it brings, whose samples are at hand. Returns how many device bytes stand at the front of `out`.
     fn apply(&mut self, event: &Event, bytes: &[u8], out: &mut [u8], reply: &mut ReplyBuf) -> usize
-        requires within { IsAllowed (device_of self.old) event.now }
-        requires bytes { length bytes.now ≡ bytes_asked event.now }
-        requires room { bytes_handed (device_of self.old) event.now ≤ length out.old }
-        requires life { self.old.parent.handed + frames_taken event.now ≤ LIFE }
-        requires ready { AreReady B.kind B.kept self.old }
+        requires { CanStepWith B.kind B.kept self.old event.now bytes.now out.old }
         ensures tables { self.new.tables ≡ self.old.tables }
         ensures applied { Applied B.kind B.kept self.old.tables event.now bytes.now (samples_at_hand self.old event.now)
             self.old.parent self.old.descriptors self.new.parent self.new.descriptors reply.new }
@@ -157,38 +145,33 @@ impl<B: Feeder> EngineOf<B> {
     {
         let here = self.parent.here();
         let parent = &mut self.parent;
-        let tables = &self.tables;
-        let descriptors = &mut self.descriptors;
         match *event {
-            Event::Open { fd, way, settings } => {
-                tell(reply, open(parent, tables, descriptors, fd, way, settings))
-            }
-            Event::Write { fd, .. } => tell(reply, write(parent, descriptors, fd, bytes, here)),
-            Event::Poke { fd, offset, .. } => {
-                tell(reply, poke(parent, descriptors, fd, offset, bytes))
-            }
             Event::Read { fd, len } => {
-                answer_read(parent, descriptors, fd, len, &mut self.answered, reply);
+                answer_read(
+                    parent,
+                    &self.descriptors,
+                    fd,
+                    len,
+                    &mut self.answered,
+                    reply,
+                );
                 0
             }
-            Event::Ioctl { fd, request } => {
-                tell(reply, ioctl(parent, tables, descriptors, fd, request, here))
-            }
-            Event::Join { fd, group } => {
-                tell(reply, join(parent, tables, descriptors, fd, group, here))
-            }
-            Event::StartGroup { fd, group } => {
-                tell(
-                    reply,
-                    start_group(parent, tables, descriptors, fd, group, here),
-                )
-            }
-            Event::Close { fd } => tell(reply, close(parent, descriptors, fd, here)),
-            Event::Mixer { request } => tell(reply, ask_mixer(parent, request)),
             Event::Intr { frames } => {
                 reply.keep(Ok(Answer::Number(frames)), &[]);
-                interrupt(parent, tables, frames, &self.captured, out)
+                interrupt(parent, &self.tables, frames, &self.captured, out)
             }
+            _ => tell(
+                reply,
+                call(
+                    parent,
+                    &self.tables,
+                    &mut self.descriptors,
+                    event,
+                    bytes,
+                    here,
+                ),
+            ),
         }
     }
 }

@@ -1,16 +1,12 @@
 //! What clients ask that groups have a part in.
 
-ghost use Rattle.std.specs.Prelude.{◌≡◌, ◌<◌};
-ghost use Rattle.pcm_sequence.specs.Fixed.{fixed_len};
+ghost use Rattle.std.specs.Prelude.{◌≡◌};
 ghost use Rattle.pcm_oss.specs.declared.event.Event.TheVariants.{Ioctl, Join, StartGroup};
-ghost use Rattle.pcm_oss.specs.declared.event.Way.TheVariants.{Play, Record, Map};
-ghost use Rattle.pcm_desk.specs.declared.limits.TheConstants.{DESCRIPTORS};
 ghost use Rattle.pcm_desk.specs.Channels.{rests};
 ghost use Rattle.pcm_desk.specs.Desk.{channel_at};
-ghost use Rattle.pcm_desk.specs.Own.{HoldApart};
 ghost use Rattle.pcm_desk.specs.Device.{DeviceSeen};
 ghost use Rattle.pcm_engine.specs.declared.descriptors.Descriptors.{Descriptors};
-ghost use Rattle.pcm_engine.specs.Answered.{AnswersBy, CanBeAsked};
+ghost use Rattle.pcm_engine.specs.Answered.{AnswersBy, AsksBy, IsSlotThere};
 ghost use Rattle.pcm_engine.specs.Desks.{desk_with, turn_on};
 
 use crate::clients::ask;
@@ -30,9 +26,7 @@ pub fn ioctl<B: Feeder>(
     request: Request,
     here: Here,
 ) -> Result<Answer, Errno>
-    requires fd { fd < DESCRIPTORS }
-    requires apart { HoldApart (desk_with parent.old descriptors.old) }
-    requires able { CanBeAsked B.kind B.kept tables.now here parent.old }
+    requires asks { AsksBy B.kind B.kept tables.now here fd parent.old descriptors.old }
     ensures { AnswersBy B.kind B.kept tables.now (turn_on (Ioctl fd request))
         parent.old descriptors.old parent.new descriptors.new result }
 {
@@ -53,9 +47,7 @@ pub fn join<B: Feeder>(
     group: u32,
     here: Here,
 ) -> Result<Answer, Errno>
-    requires fd { fd < DESCRIPTORS }
-    requires apart { HoldApart (desk_with parent.old descriptors.old) }
-    requires able { CanBeAsked B.kind B.kept tables.now here parent.old }
+    requires asks { AsksBy B.kind B.kept tables.now here fd parent.old descriptors.old }
     ensures { AnswersBy B.kind B.kept tables.now (turn_on (Join fd group))
         parent.old descriptors.old parent.new descriptors.new result }
 {
@@ -87,8 +79,7 @@ pub fn start_group<B: Feeder>(
     group: u32,
     here: Here,
 ) -> Result<Answer, Errno>
-    requires fd { fd < DESCRIPTORS }
-    requires able { CanBeAsked B.kind B.kept tables.now here parent.old }
+    requires asks { AsksBy B.kind B.kept tables.now here fd parent.old descriptors.old }
     ensures { AnswersBy B.kind B.kept tables.now (turn_on (StartGroup fd group))
         parent.old descriptors.old parent.new descriptors.new result }
 {
@@ -108,9 +99,7 @@ pub fn start_group<B: Feeder>(
 
 // Whether nothing of a run or a recording is there.
 fn is_at_rest<B: Feeder>(parent: &ParentOf<B>, held: Held) -> bool
-    requires play { held.way ≡ Play → held.slot < fixed_len parent.now.channels }
-    requires recording { held.way ≡ Record → held.slot < fixed_len parent.now.recorders }
-    requires mapped { held.way ≡ Map → held.slot < fixed_len parent.now.maps }
+    requires { IsSlotThere held parent.now }
     ensures { (device : DeviceSeen) (descriptors : Descriptors) → result ≡ rests (channel_at device (desk_with parent.now descriptors) held) }
 {
     match held.way {

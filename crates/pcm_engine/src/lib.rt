@@ -3,6 +3,7 @@
 #![tactic(auto)]
 
 mod brought;
+mod calls;
 mod clients;
 mod descriptors;
 mod engine;

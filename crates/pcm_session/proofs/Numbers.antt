@@ -1,5 +1,5 @@
 -- The number of a slot fits the number that a caller gets.
-use Rattle.std.proofs.Common.{◌≡◌, ℕ, ◌<◌, ◌≤◌, ◌^◌, Some, None, length, refl, sym, subst, arith}
+use Rattle.std.proofs.Common.{◌≡◌, ℕ, ◌<◌, ◌≤◌, ◌^◌, Some, None, length, refl, sym, ap, subst, arith}
 use Rattle.std.specs.Prelude.{Option, option_map}
 use Rattle.std.proofs.lemmas.List.{length-map}
 use Rattle.pcm_sequence.proofs.Items.{items-count}
@@ -12,7 +12,8 @@ use Rattle.pcm_play.specs.declared.channel.PlayChannelOf.{PlayChannelOf}
 use Rattle.pcm_vchan.specs.Parents.{play_channels}
 use Rattle.pcm_engine.specs.declared.engine.EngineOf.{EngineOf}
 use Rattle.pcm_engine.specs.Engines.{desk_of, device_of}
-use Rattle.pcm_engine.proofs.Turning.{held-few}
+use Rattle.pcm_engine.specs.Descriptors.{holding}
+use Rattle.pcm_engine.proofs.Turning.{open-few}
 use Rattle.pcm_status.specs.declared.status.ChannelStatus.{ChannelStatus}
 use Rattle.pcm_status.specs.Statuses.{held_status, client_status}
 
@@ -27,9 +28,8 @@ slot_by Record one other third n is too also = too
 slot_by Map one other third n is too also = also
 
 number_few : (way : Way) (slots slot : ℕ) → slots ≤ 16 → slot < 16 → slot_number slots way slot < 2 ^ 32
-number_few Play slots slot few there = omega (arith, there)
-number_few Record slots slot few there = omega (arith, there)
 number_few Map slots slot few there = omega (arith, few, there)
+number_few way slots slot few there = omega (arith, there)
 
 held_few : {B : Type 0} (engine : EngineOf B) (fd : ℕ) (found : Option Held) → held_by (desk_of engine) fd ≡ found → slot_in (option_map (held_status (device_of engine) (desk_of engine)) found) < 2 ^ 32
 held_few engine fd None e = omega arith
@@ -40,7 +40,7 @@ held_few {B} engine fd (Some held) e =
     omega (arith, slots, within, items-count engine.parent.channels, length-map (play_channels engine.parent) (λ (channel : PlayChannelOf B). channel.book)) in
     subst (λ (n : ℕ). n < 2 ^ 32)
     (sym (slot_by held.way _ _ _ (slot_number (length (desk_of engine).play) held.way held.slot) refl refl refl))
-    (number_few held.way (length (desk_of engine).play) held.slot count (held-few engine.parent engine.descriptors fd held engine.order.apart e))
+    (number_few held.way (length (desk_of engine).play) held.slot count (open-few engine.parent engine.descriptors fd held engine.order.apart (ap holding e)))
 
 pub status-few : {B : Type 0} (engine : EngineOf B) (fd : ℕ) (status : ChannelStatus) → client_status (device_of engine) (desk_of engine) fd ≡ Some status → status.slot < 2 ^ 32
 status-few engine fd status is = subst (λ (found : Option ChannelStatus). slot_in found < 2 ^ 32) is (held_few engine fd (held_by (desk_of engine) fd) refl)

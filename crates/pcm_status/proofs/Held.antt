@@ -34,19 +34,19 @@ at-way found held way e is = e ∙ ap (λ (w : Way). Some (record { way = w; slo
 
 pub play-slot : {B : Type 0} (engine : EngineOf B) (fd : ℕ) (held : Held) → held_by (desk_of engine) fd ≡ Some held → held.way ≡ Play → held.slot < play_slots (device_of engine)
 play-slot engine fd held e way =
-    let there = play-there engine.parent engine.descriptors fd held engine.order.apart e way in
+    let there = play-there engine.parent engine.descriptors fd held.slot engine.order.apart (at-way (held_by (desk_of engine) fd) held Play e way) in
     let count = engine.parent.slots in
     omega (arith, there, count, items-count engine.parent.channels)
 
 pub record-slot : {B : Type 0} (engine : EngineOf B) (fd : ℕ) (held : Held) → held_by (desk_of engine) fd ≡ Some held → held.way ≡ Record → held.slot < record_slots (device_of engine)
 record-slot engine fd held e way =
-    let there = record-there engine.parent engine.descriptors fd held engine.order.apart e way in
+    let there = record-there engine.parent engine.descriptors fd held.slot engine.order.apart (at-way (held_by (desk_of engine) fd) held Record e way) in
     let count = engine.parent.recorders_count in
     omega (arith, there, count, items-count engine.parent.recorders)
 
 pub map-slot : {B : Type 0} (engine : EngineOf B) (fd : ℕ) (held : Held) → held_by (desk_of engine) fd ≡ Some held → held.way ≡ Map → held.slot < map_slots (device_of engine)
 map-slot engine fd held e way =
-    let there = map-there engine.parent engine.descriptors fd held engine.order.apart e way in
+    let there = map-there engine.parent engine.descriptors fd held.slot engine.order.apart (at-way (held_by (desk_of engine) fd) held Map e way) in
     let count = engine.parent.maps_count in
     omega (arith, there, count, items-count engine.parent.maps)
 

@@ -3,7 +3,6 @@
 ghost use Rattle.std.specs.Prelude.{◌≡◌, ◌<◌, Some, false};
 ghost use Rattle.pcm_oss.specs.declared.event.Event.TheVariants.{Ioctl};
 ghost use Rattle.pcm_oss.specs.declared.event.Way.TheVariants.{Play};
-ghost use Rattle.pcm_desk.specs.declared.limits.TheConstants.{DESCRIPTORS};
 ghost use Rattle.pcm_desk.specs.Device.{play_slots};
 ghost use Rattle.pcm_desk.specs.Channels.{asking, member_refusal};
 ghost use Rattle.pcm_desk.specs.Desk.{desk_here, play_at};
@@ -11,6 +10,7 @@ ghost use Rattle.pcm_desk.specs.Own.{slots_of};
 ghost use Rattle.pcm_desk.specs.PlayBooks.{is_play_free};
 ghost use Rattle.pcm_engine.specs.Desks.{channel_asked};
 ghost use Rattle.pcm_engine.specs.Engines.{AreReady, desk_of, device_of};
+ghost use Rattle.pcm_status.specs.Asked.{CanAskOf};
 ghost use Rattle.pcm_status.specs.Statuses.{would};
 
 use pcm_desk::Held;
@@ -21,8 +21,7 @@ use pcm_oss::{Answer, Errno, Request, Way};
 /// What a request of the channel of a descriptor would be answered now. Nothing is done: the next position still counts fragments from the
 /// one answered before, and no shortage is forgotten.
 pub fn reply_of<B: Feeder>(engine: &EngineOf<B>, fd: u8, request: Request) -> Result<Answer, Errno>
-    requires fd { fd < DESCRIPTORS }
-    requires ready { AreReady B.kind B.kept engine.now }
+    requires { CanAskOf B.kind B.kept engine.now fd }
     ensures { result ≡ would (device_of engine.now) (desk_of engine.now) (Ioctl fd request) }
 {
     let Some(held) = engine.held(fd) else {

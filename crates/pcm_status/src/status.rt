@@ -1,13 +1,13 @@
 //! The status of a channel and of a slot.
 
 ghost use Rattle.std.specs.Prelude.{◌≡◌, ◌<◌, IfSome};
-ghost use Rattle.pcm_desk.specs.declared.limits.TheConstants.{DESCRIPTORS};
 ghost use Rattle.pcm_desk.specs.Own.{slots_of};
 ghost use Rattle.pcm_desk.specs.Device.{play_slots};
 ghost use Rattle.pcm_oss.specs.Fragments.{AreFragments};
 ghost use Rattle.pcm_oss.specs.declared.event.Way.TheVariants.{Play};
 ghost use Rattle.pcm_rate.specs.Rates.{IsRatio};
 ghost use Rattle.pcm_engine.specs.Engines.{AreReady, desk_of, device_of};
+ghost use Rattle.pcm_status.specs.Asked.{CanAskOf};
 ghost use Rattle.pcm_status.specs.Statuses as statuses;
 ghost use Rattle.pcm_status.specs.Statuses.{other_run, play_run, still_given, taken_slot};
 
@@ -69,8 +69,7 @@ pub struct SlotStatus {
 
 /// The status of the channel of a descriptor, if it is open.
 pub fn client_status<B: Feeder>(engine: &EngineOf<B>, fd: u8) -> Option<ChannelStatus>
-    requires fd { fd < DESCRIPTORS }
-    requires ready { AreReady B.kind B.kept engine.now }
+    requires { CanAskOf B.kind B.kept engine.now fd }
     ensures fragments { IfSome result (λ status. AreFragments status.fragments) }
     ensures is { result ≡ statuses.client_status (device_of engine.now) (desk_of engine.now) fd }
 {

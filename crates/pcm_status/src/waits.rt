@@ -1,7 +1,6 @@
 //! After how many frames a client can go on.
 
-ghost use Rattle.std.specs.Prelude.{◌≡◌, ◌<◌, ◌≤◌, ◌+◌, ◌^◌, true, false, Some};
-ghost use Rattle.pcm_desk.specs.declared.limits.TheConstants.{DESCRIPTORS};
+ghost use Rattle.std.specs.Prelude.{◌≡◌, ◌<◌, ◌+◌, ◌^◌, true, false};
 ghost use Rattle.pcm_desk.specs.Channels.{mixing, play_rate_at};
 ghost use Rattle.pcm_desk.specs.Desk.{held_by, play_at, record_at};
 ghost use Rattle.pcm_oss.specs.Fragments.{AreFragments};
@@ -12,6 +11,7 @@ ghost use Rattle.pcm_desk.specs.PlayBooks.{is_play_free, write_turn};
 ghost use Rattle.pcm_desk.specs.RunStates.{is_unheld};
 ghost use Rattle.pcm_desk.specs.RecordBooks.{read_turn};
 ghost use Rattle.pcm_engine.specs.Engines.{AreReady, desk_of, device_of};
+ghost use Rattle.pcm_status.specs.Asked.{CanAskOf, HoldsIn};
 ghost use Rattle.pcm_status.specs.declared.limits.TheConstants.{FRAMES_MOST};
 ghost use Rattle.pcm_status.specs.Statuses.{counts};
 ghost use Rattle.pcm_status.specs.Waits.{IsMetAt, WaitHere, WaitOf, desk_after, goes_on_after};
@@ -31,8 +31,7 @@ use pcm_rate::Rate;
 /// `BadF` where the descriptor isn't open, `Inval` where its channel is mapped, which waits for nothing. `Busy` where it isn't so after `FRAMES_MOST`
 /// frames either: nothing takes or brings frames, or `bytes` never fit.
 pub fn frames_until<B: Feeder>(engine: &EngineOf<B>, fd: u8, bytes: u32) -> Result<u64, Errno>
-    requires fd { fd < DESCRIPTORS }
-    requires ready { AreReady B.kind B.kept engine.now }
+    requires { CanAskOf B.kind B.kept engine.now fd }
     ensures { WaitOf (device_of engine.now) (desk_of engine.now) fd bytes (held_by (desk_of engine.now) fd) result }
 {
     let Some(held) = engine.held(fd) else {
@@ -46,29 +45,27 @@ pub fn frames_until<B: Feeder>(engine: &EngineOf<B>, fd: u8, bytes: u32) -> Resu
 
 // After how many frames the client of a channel can go on.
 fn wait_of<B: Feeder>(engine: &EngineOf<B>, fd: u8, held: Held, bytes: u32) -> Result<u64, Errno>
-    requires ready { AreReady B.kind B.kept engine.now }
-    requires held { held_by (desk_of engine.now) fd ≡ Some held }
+    requires holds { HoldsIn B.kind B.kept engine.now fd held }
     ensures { WaitHere (device_of engine.now) (desk_of engine.now) fd bytes result }
 {
     if goes_on_after(engine, fd, held, bytes, 0) {
         return Ok(0);
     }
-    if !goes_on_after(engine, fd, held, bytes, FRAMES_MOST) {
+    if !goes_on_after(engine, fd, held, bytes, FRAMES_MOST as u32) {
         return Err(Errno::Busy);
     }
-    Ok(first_between(engine, fd, held, bytes))
+    Ok(first_between(engine, fd, held, bytes) as u64)
 }
 
 // The least number found between those after which a client can't go on and those after which it can.
-fn first_between<B: Feeder>(engine: &EngineOf<B>, fd: u8, held: Held, bytes: u32) -> u64
-    requires ready { AreReady B.kind B.kept engine.now }
-    requires held { held_by (desk_of engine.now) fd ≡ Some held }
+fn first_between<B: Feeder>(engine: &EngineOf<B>, fd: u8, held: Held, bytes: u32) -> u32
+    requires holds { HoldsIn B.kind B.kept engine.now fd held }
     requires least { goes_on_after (device_of engine.now) (desk_of engine.now) fd bytes 0 ≡ false }
     requires most { goes_on_after (device_of engine.now) (desk_of engine.now) fd bytes FRAMES_MOST ≡ true }
     ensures { IsMetAt (device_of engine.now) (desk_of engine.now) fd bytes result }
 {
     let mut before = 0;
-    let mut after = FRAMES_MOST;
+    let mut after = FRAMES_MOST as u32;
     while after - before > 1 {
         let middle = before + (after - before) / 2;
         if goes_on_after(engine, fd, held, bytes, middle) {
@@ -86,11 +83,9 @@ fn goes_on_after<B: Feeder>(
     fd: u8,
     held: Held,
     bytes: u32,
-    frames: u64,
+    frames: u32,
 ) -> bool
-    requires ready { AreReady B.kind B.kept engine.now }
-    requires held { held_by (desk_of engine.now) fd ≡ Some held }
-    requires few { frames ≤ FRAMES_MOST }
+    requires holds { HoldsIn B.kind B.kept engine.now fd held }
     ensures { result ≡ goes_on_after (device_of engine.now) (desk_of engine.now) fd bytes frames }
 {
     match held.way {
@@ -101,11 +96,10 @@ fn goes_on_after<B: Feeder>(
 }
 
 // The book of a slot that plays, after `frames` frames.
-fn play_book_after<B: Feeder>(engine: &EngineOf<B>, slot: usize, frames: u64) -> PlayBook
+fn play_book_after<B: Feeder>(engine: &EngineOf<B>, slot: usize, frames: u32) -> PlayBook
     requires ready { AreReady B.kind B.kept engine.now }
     requires there { slot < play_slots (device_of engine.now) }
     requires taken { is_play_free (play_at (device_of engine.now) (desk_of engine.now) slot).state ≡ false }
-    requires few { frames ≤ FRAMES_MOST }
     ensures is { result ≡ play_at (device_of engine.now)
         (desk_after (device_of engine.now) (desk_of engine.now) frames) slot }
     ensures fragments { AreFragments result.opening.fragments }
@@ -138,13 +132,12 @@ fn book_mixed(book: PlayBook, rate: Rate, mixed: u64, more: u64) -> PlayBook
 }
 
 // Where the mix and the device are after `frames` frames.
-fn here_after<B: Feeder>(engine: &EngineOf<B>, frames: u64) -> Here
+fn here_after<B: Feeder>(engine: &EngineOf<B>, frames: u32) -> Here
     requires ready { AreReady B.kind B.kept engine.now }
-    requires few { frames ≤ FRAMES_MOST }
     ensures is { result ≡ here_at (device_of engine.now) ((desk_of engine.now).handed + frames) }
     ensures few { result.mixed < 2 ^ 62 }
 {
-    let handed = engine.handed() + frames;
+    let handed = engine.handed() + frames as u64;
     Here {
         mixed: engine.parent_rate().need(handed) as u64,
         passed: engine.device().passed(handed),
@@ -152,11 +145,10 @@ fn here_after<B: Feeder>(engine: &EngineOf<B>, frames: u64) -> Here
 }
 
 // The book of a slot that records, after `frames` frames.
-fn record_book_after<B: Feeder>(engine: &EngineOf<B>, slot: usize, frames: u64) -> RecordBook
+fn record_book_after<B: Feeder>(engine: &EngineOf<B>, slot: usize, frames: u32) -> RecordBook
     requires ready { AreReady B.kind B.kept engine.now }
     requires there { slot < record_slots (device_of engine.now) }
     requires taken { is_unheld (record_at (device_of engine.now) (desk_of engine.now) slot).state ≡ false }
-    requires few { frames ≤ FRAMES_MOST }
     ensures { result ≡ record_at (device_of engine.now)
         (desk_after (device_of engine.now) (desk_of engine.now) frames) slot }
 {
@@ -167,7 +159,7 @@ fn record_book_after<B: Feeder>(engine: &EngineOf<B>, slot: usize, frames: u64) 
     if !book.is_running() {
         return book;
     }
-    book.captured(engine.record_rate(slot), frames)
+    book.captured(engine.record_rate(slot), frames as u64)
 }
 
 /// Whether a write of `bytes` bytes would be taken whole.

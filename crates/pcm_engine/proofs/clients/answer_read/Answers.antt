@@ -1,10 +1,14 @@
-use Rattle.std.proofs.Common.{◌≡◌, ◌≤◌, ℕ, List, length, take, ap, ◌∙◌, arith, length-take}
+use Rattle.std.proofs.Common.{◌≡◌, ◌≤◌, ℕ, List, [], Result, length, take, sym, subst, ap, ◌∙◌, arith, length-take}
 use Rattle.std.proofs.lemmas.List.{take-append-le}
+use Rattle.pcm_oss.specs.declared.reply.Answer.{Answer}
+use Rattle.pcm_oss.specs.declared.reply.Errno.{Errno}
 use Rattle.pcm_oss.specs.Replies.{Reply, bytes_due}
 use Rattle.pcm_desk.specs.Device.{DeviceSeen, seen}
 use Rattle.pcm_oss.specs.declared.event.Event.TheVariants.{Read}
-use Rattle.pcm_desk.specs.Desk.{Desk, channel_turn, held_by}
-use Rattle.pcm_engine.specs.Desks.{desk_with}
+use Rattle.pcm_desk.specs.Desk.{Desk, held_by}
+use Rattle.pcm_vchan.specs.Parents.{untouched}
+use Rattle.pcm_engine.specs.Answered.{TakesBy}
+use Rattle.pcm_engine.specs.Desks.{desk_with, turn_on}
 use Rattle.pcm_engine.specs.Steps.{bytes_read}
 use Rattle.pcm_engine.proofs.clients.answer_read.Goals as goal
 
@@ -12,16 +16,15 @@ use Rattle.pcm_engine.proofs.clients.answer_read.Goals as goal
 there : (n : ℕ) (bytes : List ℕ) → length bytes ≡ 4096 → n ≤ 4096 → length (take n bytes) ≡ n
 there n bytes room few = omega (arith, length-take n bytes, room)
 
-pub returns-clause-turn : goal.returns-clause-turn
-returns-clause-turn g c =
+pub returns-clause-takes : goal.returns-clause-takes
+returns-clause-takes g c = λ filters.
     let desk : Desk = desk_with c.args.parent.now c.args.descriptors.now in
+    let device : DeviceSeen = seen filters c.args.parent.now.device in
     let asked = there c.args.len c.args.bytes.now c.requires.room c.requires.few in
-    record {
-      desk = λ filters. c.read-answer.ensures.turn.desk filters ∙ ap (λ (n : ℕ). (channel_turn (seen filters c.args.parent.now.device) desk (Read c.args.fd n) (held_by desk c.args.fd)).desk) asked;
-      reply = λ filters.
-          ap (λ (r : Reply). r.result) c.keep.ensures ∙ c.read-answer.ensures.turn.reply filters
-          ∙ ap (λ (n : ℕ). (channel_turn (seen filters c.args.parent.now.device) desk (Read c.args.fd n) (held_by desk c.args.fd)).reply) asked;
-    }
+    let took = c.read-answer.ensures.takes filters in
+    let kept = ap (λ (r : Reply). r.result) c.keep.ensures in
+    subst (λ (r : Result Answer Errno). TakesBy g.B.Feeder.kind g.B.Feeder.kept filters [] untouched (turn_on (Read c.args.fd c.args.len)) c.args.parent.now c.args.descriptors.now c.read-answer.new.parent c.args.descriptors.now r) (sym kept)
+    (subst (λ (n : ℕ). TakesBy g.B.Feeder.kind g.B.Feeder.kept filters [] untouched (turn_on (Read c.args.fd n)) c.args.parent.now c.args.descriptors.now c.read-answer.new.parent c.args.descriptors.now c.read-answer.result) asked took)
 
 pub returns-clause-bytes : goal.returns-clause-bytes
 returns-clause-bytes g c = λ filters bytes frames stand.

@@ -14,16 +14,16 @@ use Rattle.pcm_status.proofs.Passing.{held-after}
 use Rattle.pcm_status.proofs.waits.goes_on_after.Goals as goal
 
 pub play_book_after-requires-clause-there : goal.play_book_after-requires-clause-there
-play_book_after-requires-clause-there g c = play-slot c.args.engine.now c.args.fd c.args.held c.requires.held c.in-Play.is
+play_book_after-requires-clause-there g c = play-slot c.args.engine.now c.args.fd c.args.held c.requires.holds.is c.in-Play.is
 
 pub play_book_after-requires-clause-taken : goal.play_book_after-requires-clause-taken
-play_book_after-requires-clause-taken g c = play-taken c.args.engine.now c.args.fd c.args.held c.requires.held c.in-Play.is
+play_book_after-requires-clause-taken g c = play-taken c.args.engine.now c.args.fd c.args.held c.requires.holds.is c.in-Play.is
 
 pub record_book_after-requires-clause-there : goal.record_book_after-requires-clause-there
-record_book_after-requires-clause-there g c = record-slot c.args.engine.now c.args.fd c.args.held c.requires.held c.in-Record.is
+record_book_after-requires-clause-there g c = record-slot c.args.engine.now c.args.fd c.args.held c.requires.holds.is c.in-Record.is
 
 pub record_book_after-requires-clause-taken : goal.record_book_after-requires-clause-taken
-record_book_after-requires-clause-taken g c = record-taken c.args.engine.now c.args.fd c.args.held c.requires.held c.in-Record.is
+record_book_after-requires-clause-taken g c = record-taken c.args.engine.now c.args.fd c.args.held c.requires.holds.is c.in-Record.is
 
 pub returns-in-Play : goal.returns-in-Play
 returns-in-Play g c =
@@ -33,7 +33,7 @@ returns-in-Play g c =
     c.takes_whole.ensures (desk_here device after)
     ∙ ap (λ (book : PlayBook). counts c.args.bytes (write_turn (desk_here device after) c.args.bytes book).reply) c.play_book_after.ensures.is
     ∙ goes-by-write device after c.args.fd c.args.bytes c.args.held.slot
-    (held-after device desk c.args.fd c.args.frames ∙ at-way (held_by desk c.args.fd) c.args.held Play c.requires.held c.in-Play.is)
+    (held-after device desk c.args.fd c.args.frames ∙ at-way (held_by desk c.args.fd) c.args.held Play c.requires.holds.is c.in-Play.is)
 
 pub returns-in-Record : goal.returns-in-Record
 returns-in-Record g c =
@@ -43,4 +43,4 @@ returns-in-Record g c =
     c.has_whole.ensures
     ∙ ap (λ (book : RecordBook). counts c.args.bytes (read_turn c.args.bytes book).reply) c.record_book_after.ensures
     ∙ goes-by-read device after c.args.fd c.args.bytes c.args.held.slot
-    (held-after device desk c.args.fd c.args.frames ∙ at-way (held_by desk c.args.fd) c.args.held Record c.requires.held c.in-Record.is)
+    (held-after device desk c.args.fd c.args.frames ∙ at-way (held_by desk c.args.fd) c.args.held Record c.requires.holds.is c.in-Record.is)

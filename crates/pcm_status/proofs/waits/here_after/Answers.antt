@@ -13,7 +13,7 @@ pub overflow_cast-result : goal.overflow_cast-result
 overflow_cast-result g c =
     let most = need-near c.parent_rate.result (c.handed.result + c.args.frames) c.parent_rate.ensures.near in
     let handed = c.handed.ensures.within in
-    let few = c.requires.few in
+    let few = c.ranges.frames in
     let is = c.need.ensures in
     omega (arith, most, handed, few, is)
 
@@ -28,7 +28,7 @@ passed-requires-clause-count g c =
     let most = need-near c.parent_rate.result handed c.parent_rate.ensures.near in
     let rate : need c.parent_rate.result handed ≡ mixed_for device handed = ap (λ (r : _). need r handed) c.parent_rate.ensures.is in
     let within = c.handed.ensures.within in
-    let few = c.requires.few in
+    let few = c.ranges.frames in
     subst (λ (d : Device). passed_for (unfiltered d) handed ≤ℤ pos (2 ^ 62)) (sym c.device.ensures)
     (omega (arith, ints, past, most, rate, within, few))
 
@@ -36,6 +36,6 @@ pub returns-clause-few : goal.returns-clause-few
 returns-clause-few g c =
     let most = need-near c.parent_rate.result (c.handed.result + c.args.frames) c.parent_rate.ensures.near in
     let handed = c.handed.ensures.within in
-    let few = c.requires.few in
+    let few = c.ranges.frames in
     let is = c.need.ensures in
     omega (arith, most, handed, few, is)

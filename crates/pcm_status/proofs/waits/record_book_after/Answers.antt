@@ -35,7 +35,7 @@ captured-requires g c =
     subst (λ (b : RecordBook). IsRate b.opening.settings.rate) (sym (c.record_book-book.ensures.is ∙ record_at-books device desk recorders c.args.slot channel refl there)) found.serves.rate in
     let own = c.record_rate.ensures.is ∙ ap (λ (b : RecordBook). record_rate_at device b) (sym c.record_book-book.ensures.is) in
     let safe = record-safe g.B.Feeder.kind g.B.Feeder.kept engine c.args.slot book c.requires.ready c.record_book-book.ensures.is in
-    let few = c.requires.few in
+    let few = c.ranges.frames in
     let captured = c.record_book-book.ensures.captured in
     let kept = c.record_book-book.ensures.kept in
     let most = record-few device book.opening.settings (book.captured + n) limits client in

@@ -1,4 +1,4 @@
-use Rattle.std.proofs.Common.{◌&&◌, Bool, sym, ap, ◌∙◌}
+use Rattle.std.proofs.Common.{sym, ◌∙◌}
 use Rattle.std.proofs.lemmas.List.Folds.{list_all-map}
 use Rattle.pcm_desk.specs.PlayBooks.{is_play_free}
 use Rattle.pcm_desk.specs.RunStates.{is_unheld}
@@ -10,7 +10,6 @@ use Rattle.pcm_record.specs.declared.channel.RecordChannelOf.{RecordChannelOf}
 use Rattle.pcm_map.specs.declared.channel.MapChannelOf.{MapChannelOf}
 use Rattle.pcm_vchan.specs.Parents.{map_channels, play_channels, record_channels}
 use Rattle.pcm_engine.specs.Engines.{desk_of}
-use Rattle.pcm_engine.specs.Views.{plays_none, records_none}
 use Rattle.pcm_engine.proofs.engine.EngineOf.is_idle.Goals as goal
 
 pub returns : goal.returns
@@ -20,7 +19,4 @@ returns g c =
     let plays = c.plays_none.ensures ∙ sym (list_all-map (λ (book : PlayBook). is_play_free book.state) (λ (channel : PlayChannelOf _). channel.book) (play_channels parent)) in
     let records = c.records_none.ensures ∙ sym (list_all-map (λ (book : RecordBook). is_unheld book.state) (λ (channel : RecordChannelOf _). channel.book) (record_channels parent)) in
     let maps = c.maps_none.ensures ∙ sym (list_all-map (λ (book : MapBook). is_unheld book.state) (λ (channel : MapChannelOf _). channel.book) (map_channels parent)) in
-    c.are_all.ensures
-    ∙ ap (λ (b : Bool). b && (c.records_none.result && c.maps_none.result)) plays
-    ∙ ap (λ (b : Bool). plays_none desk && (b && c.maps_none.result)) records
-    ∙ ap (λ (b : Bool). plays_none desk && (records_none desk && b)) maps
+    cc (plays, records, maps)

@@ -16,7 +16,7 @@ use Rattle.pcm_engine.specs.Desks.{desk_with}
 use Rattle.pcm_engine.specs.Life.{MapKeepsPace, PlayKeepsPace, RecordKeepsPace}
 use Rattle.pcm_engine.specs.Stands.{RecordersStand}
 use Rattle.pcm_engine.proofs.InOrder.{books-start, ready-all}
-use Rattle.pcm_engine.proofs.Starting.{books-unopened, map-ready-unopened, parent-starts, ready-unopened, record-ready-unopened, recorders-start}
+use Rattle.pcm_engine.proofs.Starting.{books-unopened, parent-starts, recorders-start}
 use Rattle.pcm_engine.proofs.engine.EngineOf.new.Goals as goal
 use Rattle.pcm_bus.specs.Handovers.{HasMade}
 use Rattle.pcm_vchan.specs.Parents.{HasBus, map_channels, play_channels, record_channels}
@@ -49,9 +49,9 @@ invariant_of-result g c =
 
 pub returns-clause-ready : goal.returns-clause-ready
 returns-clause-ready g c = ready-all g.B.Feeder.kind g.B.Feeder.kept _
-    (ready-unopened g.B.Feeder.kind g.B.Feeder.kept c.args.tables c.args.device (play_channels c.in_ok-parent.parent) c.in_ok-parent.ensures.channels)
-    (record-ready-unopened g.B.Feeder.kind g.B.Feeder.kept c.args.tables c.args.device (record_channels c.in_ok-parent.parent) c.in_ok-parent.ensures.recording)
-    (map-ready-unopened g.B.Feeder.kind g.B.Feeder.kept c.args.tables c.args.device (map_channels c.in_ok-parent.parent) c.in_ok-parent.ensures.mapped)
+    (λ slot other there. let u = c.in_ok-parent.ensures.channels slot other there in record { kinds = u.kinds; planned = λ used. u.planned; stands = record { bytes = []; stands = u.stands } })
+    (λ slot other there. let u = c.in_ok-parent.ensures.recording slot other there in record { kinds = u.kinds; planned = λ used. u.planned; stands = record { bytes = []; frames = []; stands = u.stands } })
+    (λ slot other there. let u = c.in_ok-parent.ensures.mapped slot other there in record { kinds = u.kinds; planned = λ used. u.planned; stands = record { bytes = []; stands = u.stands } })
     (let e = c.in_ok-parent.ensures in
     let parent = c.in_ok-parent.parent in
     subst (λ (d : Device). HasBus g.B.Feeder.kept (seen c.args.tables d) parent) (sym e.device) (record {

@@ -4,15 +4,13 @@ use Rattle.pcm_soak_command.proofs.Running.{front, life-left}
 use Rattle.pcm_replay.proofs.Plays.{handed-among, next-given, played}
 use Rattle.pcm_replay.proofs.replay.ReplayOf.step_at.Goals as goal
 
--- the bytes that the event hands over have room
-pub step-bytes-requires-clause-room : goal.step-bytes-requires-clause-room
-step-bytes-requires-clause-room g c =
-    handed-among (device_of c.args.self.now.engine) c.args.events.now c.args.at _ _ _ c.requires.there refl (c.deref_mut.ensures.len ∙ c.requires.played.room)
-
--- the engine has the frames left that it takes
-pub step-bytes-requires-clause-life : goal.step-bytes-requires-clause-life
-step-bytes-requires-clause-life g c =
-    life-left g.B.Feeder.kind g.B.Feeder.kept c.args.self.now.engine _ c.args.pool.now c.args.events.now c.args.at _ c.requires.played.engine c.requires.events.fits c.requires.events.count c.requires.there
+-- the engine can step on the event: the bytes that it hands over have room, and the frames are left that it takes
+pub step-bytes-requires-clause-can : goal.step-bytes-requires-clause-can
+step-bytes-requires-clause-can g c = record {
+  ready = c.requires.played.engine.ready;
+  room = handed-among (device_of c.args.self.now.engine) c.args.events.now c.args.at _ _ _ c.requires.there refl (c.deref_mut.ensures.len ∙ c.requires.played.room);
+  life = life-left g.B.Feeder.kind g.B.Feeder.kept c.args.self.now.engine _ c.args.pool.now c.args.events.now c.args.at _ c.requires.played.engine c.requires.events.fits c.requires.events.count c.requires.there;
+}
 
 pub returns-clause-played : goal.returns-clause-played
 returns-clause-played g c =

@@ -1,33 +1,17 @@
 use Rattle.std.proofs.Common.{◌≡◌, ◌++◌, List, ℕ, drop, length, take, sym, ◌∙◌, subst, arith}
 use Rattle.std.proofs.lemmas.List.{take-append-le, take_all}
-use Rattle.pcm_engine.specs.Engines.{device_of}
 use Rattle.pcm_sequence.specs.Fixed.{fixed_items, fixed_len}
 use Rattle.pcm_session.specs.Steps.{IsCallStep}
-use Rattle.pcm_session.proofs.Taken.{can-take}
+use Rattle.pcm_session.proofs.Taken.{can-step}
 use Rattle.pcm_session.proofs.session.SessionOf.step_unheard.Goals as goal
 
-pub step_with-count-requires-clause-bytes : goal.step_with-count-requires-clause-bytes
-step_with-count-requires-clause-bytes g c =
-    let engine = c.args.self.now.engine in
-    (can-take (device_of engine) engine.parent.handed c.args.event.now (length c.args.bytes.now) (length c.args.samples.now) c.unheard_room.result (sym c.if-not-takes.ensures)).bytes_are
-
-pub step_with-count-requires-clause-samples : goal.step_with-count-requires-clause-samples
-step_with-count-requires-clause-samples g c =
-    let engine = c.args.self.now.engine in
-    (can-take (device_of engine) engine.parent.handed c.args.event.now (length c.args.bytes.now) (length c.args.samples.now) c.unheard_room.result (sym c.if-not-takes.ensures)).samples_fit
-
 -- the bytes for the device have room where nobody hears them
-pub step_with-count-requires-clause-room : goal.step_with-count-requires-clause-room
-step_with-count-requires-clause-room g c =
+pub step_with-count-requires : goal.step_with-count-requires
+step_with-count-requires g c =
     let session = c.args.self.now in
-    let engine = session.engine in
-    let fits = (can-take (device_of engine) engine.parent.handed c.args.event.now (length c.args.bytes.now) (length c.args.samples.now) c.unheard_room.result (sym c.if-not-takes.ensures)).room_is in
-    omega (arith, fits, c.unheard_room.ensures, session.room, c.deref_mut.ensures.len)
-
-pub step_with-count-requires-clause-life : goal.step_with-count-requires-clause-life
-step_with-count-requires-clause-life g c =
-    let engine = c.args.self.now.engine in
-    (can-take (device_of engine) engine.parent.handed c.args.event.now (length c.args.bytes.now) (length c.args.samples.now) c.unheard_room.result (sym c.if-not-takes.ensures)).left
+    let room : c.unheard_room.result ≡ length c.deref_mut.result.now = omega (arith, c.unheard_room.ensures, session.room, c.deref_mut.ensures.len) in
+    let can = can-step g.B.Feeder.kind g.B.Feeder.kept session.engine c.args.event.now c.args.bytes.now (length c.args.samples.now) c.deref_mut.result.now c.unheard_room.result (sym c.if-not-takes.ensures) room c.requires.ready in
+    record { samples = can.0; can = can.1 }
 
 -- and stands there
 pub returns-clause-step : goal.returns-clause-step

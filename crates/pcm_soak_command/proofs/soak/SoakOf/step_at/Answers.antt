@@ -62,8 +62,18 @@ slice_bounds-hear-end g c =
     let size : length (take c.step-count.result c.step-count.new.out) ≡ c.step-count.result = length-take-le c.step-count.result c.step-count.new.out (omega (arith, count, room)) in
     sym (ap (λ (bytes : List ℕ). length (take c.step-count.result bytes)) block ∙ size)
 
--- the engine has the frames left that the event takes
-pub step-count-requires-clause-life : goal.step-count-requires-clause-life
-step-count-requires-clause-life g c =
-    let count = c.requires.events.count in
-    life-left g.B.Feeder.kind g.B.Feeder.kept c.args.self.now.engine _ c.args.pool.now c.args.events.now c.args.at _ c.requires.soaked.engine c.requires.events.fits (omega (arith, count)) c.requires.there
+within : (count n m : ℕ) → count ≤ m → n ≡ m → count ≤ n
+within count n m less same = omega (arith, less, same)
+
+-- the engine can step on it: its bytes have room, and its frames are left
+pub step-count-requires-clause-can : goal.step-count-requires-clause-can
+step-count-requires-clause-can g c =
+    let soaked = c.requires.soaked in
+    let events = c.requires.events in
+    let device = device_of c.args.self.now.engine in
+    let room : length c.deref_mut.result.now ≡ ring_room usual_device = c.deref_mut.ensures.len ∙ soaked.room in
+    record {
+      ready = soaked.engine.ready;
+      room = within _ _ _ (handed-on device c.args.pool.now c.args.events.now c.args.at _ _ soaked.engine.device_is events.fits c.requires.there refl) room;
+      life = life-left g.B.Feeder.kind g.B.Feeder.kept c.args.self.now.engine _ c.args.pool.now c.args.events.now c.args.at _ soaked.engine events.fits (omega (arith, events.count)) c.requires.there;
+    }
