@@ -22,12 +22,12 @@ pub new-moved : {B : Type 0} (kept : B → Kept) (device : DeviceNumbers) (filte
 new-moved kept device filters coefs sections one other same is = subst (IsNew kept device filters coefs sections) (sym same) is
 
 -- an interrupt of a session is one of the same session elsewhere
-pub interrupts-moved : {B : Type 0} (kept : B → Kept) (frames : ℕ) (samples : List ℤ) (out : List ℕ) (one other new : SessionOf B) → one ≡ other → Interrupts kept frames samples out other new → Interrupts kept frames samples out one new
-interrupts-moved kept frames samples out one other new same interrupts = subst (λ (session : SessionOf _). Interrupts kept frames samples out session new) (sym same) interrupts
+pub interrupts-moved : {B : Type 0} (kind : B → Kind) (kept : B → Kept) (frames : ℕ) (samples : List ℤ) (out : List ℕ) (one other new : SessionOf B) → one ≡ other → Interrupts kind kept frames samples out other new → Interrupts kind kept frames samples out one new
+interrupts-moved kind kept frames samples out one other new same interrupts = subst (λ (session : SessionOf _). Interrupts kind kept frames samples out session new) (sym same) interrupts
 
 -- so it is of one whose bytes nobody hears
-pub discards-moved : {B : Type 0} (kept : B → Kept) (frames : ℕ) (samples : List ℤ) (one other new : SessionOf B) → one ≡ other → Discards kept frames samples other new → Discards kept frames samples one new
-discards-moved kept frames samples one other new same discards = subst (λ (session : SessionOf _). Discards kept frames samples session new) (sym same) discards
+pub discards-moved : {B : Type 0} (kind : B → Kind) (kept : B → Kept) (frames : ℕ) (samples : List ℤ) (one other new : SessionOf B) → one ≡ other → Discards kind kept frames samples other new → Discards kind kept frames samples one new
+discards-moved kind kept frames samples one other new same discards = subst (λ (session : SessionOf _). Discards kind kept frames samples session new) (sym same) discards
 
 -- what is done to a session is done to what is held
 pub on-some : (old new : Option Session) (one other : Session) (does : Session → Session → Type 0) → Some one ≡ old → new ≡ Some other → does one other → OnHeld old new does

@@ -76,7 +76,7 @@ pub extern "C" fn dsp_raw_open(
     rate: u32,
 ) -> i32
     ensures makes { On engine.old engine.new (λ old new.
-        MakesCall ⟦<Stage as Feeder>⟧.kept (event_for_open fd way format channels rate) [] old.of new.of) }
+        MakesCall ⟦<Stage as Feeder>⟧.kind ⟦<Stage as Feeder>⟧.kept (event_for_open fd way format channels rate) [] old.of new.of) }
     ensures number { On engine.old engine.new (λ old new.
         result ≡ open_number fd way format channels rate old.of new.of) }
     ensures none { engine.old.slot.session ≡ None
@@ -94,7 +94,7 @@ pub extern "C" fn dsp_raw_open(
 #[unsafe(no_mangle)]
 pub extern "C" fn dsp_raw_write(alloc: Global, engine: &mut Handle, fd: u32, bytes: &[u8]) -> i32
     ensures makes { On engine.old engine.new (λ old new.
-        MakesCall ⟦<Stage as Feeder>⟧.kept (event_for_write fd (length bytes.now)) bytes.now old.of new.of) }
+        MakesCall ⟦<Stage as Feeder>⟧.kind ⟦<Stage as Feeder>⟧.kept (event_for_write fd (length bytes.now)) bytes.now old.of new.of) }
     ensures number { On engine.old engine.new (λ old new.
         result ≡ call_number count_number (event_for_write fd (length bytes.now)) bytes.now old.of new.of) }
     ensures none { engine.old.slot.session ≡ None
@@ -118,7 +118,7 @@ pub extern "C" fn dsp_raw_poke(
     bytes: &[u8],
 ) -> i32
     ensures makes { On engine.old engine.new (λ old new.
-        MakesCall ⟦<Stage as Feeder>⟧.kept (event_for_poke fd offset (length bytes.now)) bytes.now old.of new.of) }
+        MakesCall ⟦<Stage as Feeder>⟧.kind ⟦<Stage as Feeder>⟧.kept (event_for_poke fd offset (length bytes.now)) bytes.now old.of new.of) }
     ensures number { On engine.old engine.new (λ old new.
         result ≡ call_number count_number (event_for_poke fd offset (length bytes.now)) bytes.now old.of new.of) }
     ensures none { engine.old.slot.session ≡ None
@@ -136,7 +136,7 @@ pub extern "C" fn dsp_raw_poke(
 #[unsafe(no_mangle)]
 pub extern "C" fn dsp_raw_read(alloc: Global, engine: &mut Handle, fd: u32, out: &mut [u8]) -> i32
     ensures makes { On engine.old engine.new (λ old new.
-        MakesCall ⟦<Stage as Feeder>⟧.kept (event_for_read fd (length out.old)) [] old.of new.of) }
+        MakesCall ⟦<Stage as Feeder>⟧.kind ⟦<Stage as Feeder>⟧.kept (event_for_read fd (length out.old)) [] old.of new.of) }
     ensures number { On engine.old engine.new (λ old new.
         result ≡ call_number count_number (event_for_read fd (length out.old)) [] old.of new.of) }
     ensures out { On engine.old engine.new (λ old new.
@@ -163,7 +163,7 @@ pub extern "C" fn dsp_raw_ioctl(
     answer: &mut AnswerNumbers,
 ) -> i32
     ensures makes { On engine.old engine.new (λ old new.
-        MakesCall ⟦<Stage as Feeder>⟧.kept (event_for_ioctl fd request argument) [] old.of new.of) }
+        MakesCall ⟦<Stage as Feeder>⟧.kind ⟦<Stage as Feeder>⟧.kept (event_for_ioctl fd request argument) [] old.of new.of) }
     ensures number { On engine.old engine.new (λ old new.
         result ≡ call_number done_number (event_for_ioctl fd request argument) [] old.of new.of) }
     ensures answer { On engine.old engine.new (λ old new.
@@ -189,7 +189,7 @@ pub extern "C" fn dsp_raw_join(
     answer: &mut AnswerNumbers,
 ) -> i32
     ensures makes { On engine.old engine.new (λ old new.
-        MakesCall ⟦<Stage as Feeder>⟧.kept (event_for_join fd group) [] old.of new.of) }
+        MakesCall ⟦<Stage as Feeder>⟧.kind ⟦<Stage as Feeder>⟧.kept (event_for_join fd group) [] old.of new.of) }
     ensures number { On engine.old engine.new (λ old new.
         result ≡ call_number done_number (event_for_join fd group) [] old.of new.of) }
     ensures answer { On engine.old engine.new (λ old new.
@@ -209,7 +209,7 @@ pub extern "C" fn dsp_raw_join(
 #[unsafe(no_mangle)]
 pub extern "C" fn dsp_raw_start(alloc: Global, engine: &mut Handle, fd: u32, group: u32) -> i32
     ensures makes { On engine.old engine.new (λ old new.
-        MakesCall ⟦<Stage as Feeder>⟧.kept (event_for_start fd group) [] old.of new.of) }
+        MakesCall ⟦<Stage as Feeder>⟧.kind ⟦<Stage as Feeder>⟧.kept (event_for_start fd group) [] old.of new.of) }
     ensures number { On engine.old engine.new (λ old new.
         result ≡ call_number count_number (event_for_start fd group) [] old.of new.of) }
     ensures none { engine.old.slot.session ≡ None
@@ -227,7 +227,7 @@ pub extern "C" fn dsp_raw_start(alloc: Global, engine: &mut Handle, fd: u32, gro
 #[unsafe(no_mangle)]
 pub extern "C" fn dsp_raw_close(alloc: Global, engine: &mut Handle, fd: u32) -> i32
     ensures makes { On engine.old engine.new (λ old new.
-        MakesCall ⟦<Stage as Feeder>⟧.kept (event_for_close fd) [] old.of new.of) }
+        MakesCall ⟦<Stage as Feeder>⟧.kind ⟦<Stage as Feeder>⟧.kept (event_for_close fd) [] old.of new.of) }
     ensures number { On engine.old engine.new (λ old new.
         result ≡ call_number count_number (event_for_close fd) [] old.of new.of) }
     ensures none { engine.old.slot.session ≡ None
@@ -252,7 +252,7 @@ pub extern "C" fn dsp_raw_mixer(
     answer: &mut AnswerNumbers,
 ) -> i32
     ensures makes { On engine.old engine.new (λ old new.
-        MakesCall ⟦<Stage as Feeder>⟧.kept (event_for_mixer request slot value) [] old.of new.of) }
+        MakesCall ⟦<Stage as Feeder>⟧.kind ⟦<Stage as Feeder>⟧.kept (event_for_mixer request slot value) [] old.of new.of) }
     ensures number { On engine.old engine.new (λ old new.
         result ≡ call_number done_number (event_for_mixer request slot value) [] old.of new.of) }
     ensures answer { On engine.old engine.new (λ old new.
@@ -278,7 +278,7 @@ pub extern "C" fn dsp_raw_interrupt(
     out: &mut [u8],
 ) -> i32
     ensures interrupts { On engine.old engine.new (λ old new.
-        Interrupts ⟦<Stage as Feeder>⟧.kept frames samples.now out.new old.of new.of) }
+        Interrupts ⟦<Stage as Feeder>⟧.kind ⟦<Stage as Feeder>⟧.kept frames samples.now out.new old.of new.of) }
     ensures number { On engine.old engine.new (λ old new.
         result ≡ handed_number old.of frames (length samples.now) (length out.old)) }
     ensures rest { On engine.old engine.new (λ old new.
@@ -304,7 +304,7 @@ pub extern "C" fn dsp_raw_discard(
     samples: &[i32],
 ) -> i32
     ensures discards { On engine.old engine.new (λ old new.
-        Discards ⟦<Stage as Feeder>⟧.kept frames samples.now old.of new.of) }
+        Discards ⟦<Stage as Feeder>⟧.kind ⟦<Stage as Feeder>⟧.kept frames samples.now old.of new.of) }
     ensures number { On engine.old engine.new (λ old new.
         result ≡ handed_number old.of frames (length samples.now) (unheard_room (device_of old.of.engine))) }
     ensures none { engine.old.slot.session ≡ None → result ≡ call_fault_number Engine }

@@ -29,8 +29,7 @@ pub fn open<B: Feeder>(
     rate: u32,
 ) -> i32
     requires ready { AreReady B.kind B.kept session.old.engine }
-    ensures ready { AreReady B.kind B.kept session.new.engine }
-    ensures makes { MakesCall B.kept (event_for_open fd way format channels rate) []
+    ensures makes { MakesCall B.kind B.kept (event_for_open fd way format channels rate) []
         session.old session.new }
     ensures number { result ≡ open_number fd way format channels rate session.old session.new }
 {
@@ -47,8 +46,7 @@ pub fn open<B: Feeder>(
 /// Writes bytes. Answers how many of them were taken: the first ones.
 pub fn write<B: Feeder>(session: &mut SessionOf<B>, fd: u32, bytes: &[u8]) -> i32
     requires ready { AreReady B.kind B.kept session.old.engine }
-    ensures ready { AreReady B.kind B.kept session.new.engine }
-    ensures makes { MakesCall B.kept (event_for_write fd (length bytes.now)) bytes.now
+    ensures makes { MakesCall B.kind B.kept (event_for_write fd (length bytes.now)) bytes.now
         session.old session.new }
     ensures number { result ≡ call_number count_number
         (event_for_write fd (length bytes.now)) bytes.now session.old session.new }
@@ -59,8 +57,7 @@ pub fn write<B: Feeder>(session: &mut SessionOf<B>, fd: u32, bytes: &[u8]) -> i3
 /// Writes bytes into an area, from its byte `offset` on.
 pub fn poke<B: Feeder>(session: &mut SessionOf<B>, fd: u32, offset: u32, bytes: &[u8]) -> i32
     requires ready { AreReady B.kind B.kept session.old.engine }
-    ensures ready { AreReady B.kind B.kept session.new.engine }
-    ensures makes { MakesCall B.kept (event_for_poke fd offset (length bytes.now)) bytes.now
+    ensures makes { MakesCall B.kind B.kept (event_for_poke fd offset (length bytes.now)) bytes.now
         session.old session.new }
     ensures number { result ≡ call_number count_number
         (event_for_poke fd offset (length bytes.now)) bytes.now session.old session.new }
@@ -71,8 +68,7 @@ pub fn poke<B: Feeder>(session: &mut SessionOf<B>, fd: u32, offset: u32, bytes: 
 /// Starts all members of a group.
 pub fn start<B: Feeder>(session: &mut SessionOf<B>, fd: u32, group: u32) -> i32
     requires ready { AreReady B.kind B.kept session.old.engine }
-    ensures ready { AreReady B.kind B.kept session.new.engine }
-    ensures makes { MakesCall B.kept (event_for_start fd group) [] session.old session.new }
+    ensures makes { MakesCall B.kind B.kept (event_for_start fd group) [] session.old session.new }
     ensures number { result ≡ call_number count_number
         (event_for_start fd group) [] session.old session.new }
 {
@@ -82,8 +78,7 @@ pub fn start<B: Feeder>(session: &mut SessionOf<B>, fd: u32, group: u32) -> i32
 /// Closes a descriptor.
 pub fn close<B: Feeder>(session: &mut SessionOf<B>, fd: u32) -> i32
     requires ready { AreReady B.kind B.kept session.old.engine }
-    ensures ready { AreReady B.kind B.kept session.new.engine }
-    ensures makes { MakesCall B.kept (event_for_close fd) [] session.old session.new }
+    ensures makes { MakesCall B.kind B.kept (event_for_close fd) [] session.old session.new }
     ensures number { result ≡ call_number count_number
         (event_for_close fd) [] session.old session.new }
 {
@@ -99,8 +94,7 @@ pub fn ioctl<B: Feeder>(
     answer: &mut AnswerNumbers,
 ) -> i32
     requires ready { AreReady B.kind B.kept session.old.engine }
-    ensures ready { AreReady B.kind B.kept session.new.engine }
-    ensures makes { MakesCall B.kept (event_for_ioctl fd request argument) []
+    ensures makes { MakesCall B.kind B.kept (event_for_ioctl fd request argument) []
         session.old session.new }
     ensures number { result ≡ call_number done_number
         (event_for_ioctl fd request argument) [] session.old session.new }
@@ -118,8 +112,7 @@ pub fn join<B: Feeder>(
     answer: &mut AnswerNumbers,
 ) -> i32
     requires ready { AreReady B.kind B.kept session.old.engine }
-    ensures ready { AreReady B.kind B.kept session.new.engine }
-    ensures makes { MakesCall B.kept (event_for_join fd group) [] session.old session.new }
+    ensures makes { MakesCall B.kind B.kept (event_for_join fd group) [] session.old session.new }
     ensures number { result ≡ call_number done_number
         (event_for_join fd group) [] session.old session.new }
     ensures answer { answer.new
@@ -137,8 +130,7 @@ pub fn ask_mixer<B: Feeder>(
     answer: &mut AnswerNumbers,
 ) -> i32
     requires ready { AreReady B.kind B.kept session.old.engine }
-    ensures ready { AreReady B.kind B.kept session.new.engine }
-    ensures makes { MakesCall B.kept (event_for_mixer request slot value) []
+    ensures makes { MakesCall B.kind B.kept (event_for_mixer request slot value) []
         session.old session.new }
     ensures number { result ≡ call_number done_number
         (event_for_mixer request slot value) [] session.old session.new }
@@ -151,8 +143,7 @@ pub fn ask_mixer<B: Feeder>(
 /// Reads at most as many bytes as there is room for. Answers how many stand at the front of `out`; the rest of it stays.
 pub fn read<B: Feeder>(session: &mut SessionOf<B>, fd: u32, out: &mut [u8]) -> i32
     requires ready { AreReady B.kind B.kept session.old.engine }
-    ensures ready { AreReady B.kind B.kept session.new.engine }
-    ensures makes { MakesCall B.kept (event_for_read fd (length out.old)) []
+    ensures makes { MakesCall B.kind B.kept (event_for_read fd (length out.old)) []
         session.old session.new }
     ensures number { result ≡ call_number count_number
         (event_for_read fd (length out.old)) [] session.old session.new }
@@ -177,8 +168,7 @@ pub fn interrupt<B: Feeder>(
     out: &mut [u8],
 ) -> i32
     requires ready { AreReady B.kind B.kept session.old.engine }
-    ensures ready { AreReady B.kind B.kept session.new.engine }
-    ensures interrupts { Interrupts B.kept frames samples.now out.new session.old session.new }
+    ensures interrupts { Interrupts B.kind B.kept frames samples.now out.new session.old session.new }
     ensures number { result ≡ handed_number session.old frames (length samples.now) (length out.old) }
     ensures rest { drop (handed_count session.old frames (length samples.now) (length out.old)) out.new
         ≡ drop (handed_count session.old frames (length samples.now) (length out.old)) out.old }
@@ -193,8 +183,7 @@ pub fn interrupt<B: Feeder>(
 /// these were.
 pub fn discard<B: Feeder>(session: &mut SessionOf<B>, frames: u32, samples: &[i32]) -> i32
     requires ready { AreReady B.kind B.kept session.old.engine }
-    ensures ready { AreReady B.kind B.kept session.new.engine }
-    ensures discards { Discards B.kept frames samples.now session.old session.new }
+    ensures discards { Discards B.kind B.kept frames samples.now session.old session.new }
     ensures number { result ≡ handed_number session.old frames (length samples.now)
         (unheard_room (device_of session.old.engine)) }
 {
@@ -228,8 +217,7 @@ fn takes<B: Feeder>(
 // The step on an event, and what its reply counts.
 fn count_of<B: Feeder>(session: &mut SessionOf<B>, event: Option<Event>, bytes: &[u8]) -> i32
     requires ready { AreReady B.kind B.kept session.old.engine }
-    ensures ready { AreReady B.kind B.kept session.new.engine }
-    ensures makes { MakesCall B.kept event bytes.now session.old session.new }
+    ensures makes { MakesCall B.kind B.kept event bytes.now session.old session.new }
     ensures number { result ≡ call_number count_number
         event bytes.now session.old session.new }
 {
@@ -246,8 +234,7 @@ fn done_beside<B: Feeder>(
     answer: &mut AnswerNumbers,
 ) -> i32
     requires ready { AreReady B.kind B.kept session.old.engine }
-    ensures ready { AreReady B.kind B.kept session.new.engine }
-    ensures makes { MakesCall B.kept event [] session.old session.new }
+    ensures makes { MakesCall B.kind B.kept event [] session.old session.new }
     ensures number { result ≡ call_number done_number event [] session.old session.new }
     ensures answer { answer.new ≡ beside event session.old session.new answer.old }
 {

@@ -8,4 +8,4 @@ discard-number-requires c = record { ready = ready-moved _ _ _ c.in-Some.session
 
 pub returns-clause-discards : goal.returns-clause-discards
 returns-clause-discards c = on-some _ _ c.in-Some.session.value _ _ c.in-Some.ensures.value c.put.ensures
-    (discards-moved _ _ _ c.in-Some.session.value.of c.deref_mut.result.now.of _ (sym (ap (λ (session : Session). session.of) c.deref_mut.ensures.value)) c.discard-number.ensures.discards)
+    (discards-moved _ _ _ _ c.in-Some.session.value.of c.deref_mut.result.now.of _ (sym (ap (λ (session : Session). session.of) c.deref_mut.ensures.value)) c.discard-number.ensures.discards)

@@ -8,4 +8,4 @@ interrupt-number-requires c = record { ready = ready-moved _ _ _ c.in-Some.sessi
 
 pub returns-clause-interrupts : goal.returns-clause-interrupts
 returns-clause-interrupts c = on-some _ _ c.in-Some.session.value _ _ c.in-Some.ensures.value c.put.ensures
-    (interrupts-moved _ _ _ _ c.in-Some.session.value.of c.deref_mut.result.now.of _ (sym (ap (λ (session : Session). session.of) c.deref_mut.ensures.value)) c.interrupt-number.ensures.interrupts)
+    (interrupts-moved _ _ _ _ _ c.in-Some.session.value.of c.deref_mut.result.now.of _ (sym (ap (λ (session : Session). session.of) c.deref_mut.ensures.value)) c.interrupt-number.ensures.interrupts)
