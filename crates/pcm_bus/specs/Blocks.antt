@@ -1,6 +1,8 @@
 -- What is mixed at an interrupt, from the books of the slots and the bytes of their runs at the gains of the mixer device, and the ring that takes what comes of it.
-use Rattle.std.specs.Prelude.{◌≡◌, ℕ, ◌+◌, ◌*◌, List, ◌++◌, length, drop, fold, replicate, slice_index_or, ℤ, pos}
+use Rattle.std.specs.Prelude.{◌≡◌, ℕ, zero, suc, ◌+◌, ◌*◌, List, ◌++◌, length, drop, fold, replicate, slice_index_or, ℤ, pos}
 use Rattle.std.specs.List.{flat_map, range_with_len}
+use Rattle.pcm_sequence.specs.declared.fixed.Fixed.{Fixed}
+use Rattle.pcm_sequence.specs.Fixed.{fixed_items}
 use Rattle.pcm_feeder.specs.declared.stage.Gain.{Gain}
 use Rattle.pcm_feeder.specs.Filters.{Filters}
 use Rattle.pcm_feeder.specs.Kept.{Kept}
@@ -59,15 +61,11 @@ turned_ring settings n block bytes = drop (n * frame_bytes settings) bytes ++ bl
 
 -- ---- whatever bytes the channels stand for
 
--- a block to which they add theirs
-abbrev pub MixesOnto : {B : Type 0} → (B → Kept) → Filters → Device → ℕ → (ℕ → Gain) → List (PlayChannelOf B) → List ℤ → List ℤ → Type 0
-MixesOnto kept filters device n gains channels old new = (streams : ℕ → List ℕ) → AllPlayStand kept filters channels streams
-    → new ≡ mixed_onto (seen filters device) n gains (play_books_of channels) streams (length channels) old
-
--- a block to which mapped ones add theirs
-abbrev pub MapsOnto : {B : Type 0} → (B → Kept) → Filters → Device → ℕ → (ℕ → Gain) → List (MapChannelOf B) → List ℤ → List ℤ → Type 0
-MapsOnto kept filters device n gains channels old new = (taken areas : ℕ → List ℕ) → AllMapStand kept filters channels taken areas
-    → new ≡ mapped_onto (seen filters device) n gains (map_books_of channels) taken areas (length channels) old
+-- a block to which the first ones of some channels add theirs, one after another, each at the gain of its slot
+abbrev pub Added : {X : Type 0} → (Gain → List ℤ → List ℤ → X → Type 0) → (ℕ → Gain) → List X → ℕ → List ℤ → List ℤ → Type 0
+Added adds gains channels zero old new = new ≡ old
+Added {X = X} adds gains channels (suc slots) old new = (between : List ℤ) × (Added adds gains channels slots old between
+    × ((other : X) → adds (gains slots) between new (slice_index_or channels slots other)))
 
 -- channels stand for what is known of their slots
 pub record AllStand {B : Type 0} (kept : B → Kept) (filters : Filters) (channels : List (PlayChannelOf B)) (maps : List (MapChannelOf B)) (sources : Sources) : Type 0 where
@@ -89,5 +87,6 @@ abbrev pub whole_block : {B : Type 0} → DeviceSeen → ℕ → Levels → List
 whole_block device n mixer channels maps sources = faded (mix_settings device).layout (master_gain mixer) (whole_sum device n mixer channels maps sources)
 
 -- a block of theirs
-abbrev pub MixesBlock : {B : Type 0} → (B → Kept) → Filters → Device → ℕ → Levels → List (PlayChannelOf B) → List (MapChannelOf B) → List ℤ → Type 0
-MixesBlock kept filters device n mixer channels maps block = (sources : Sources) → AllStand kept filters channels maps sources → block ≡ whole_block (seen filters device) n mixer channels maps sources
+abbrev pub MixesBlock : {B : Type 0} → (B → Kept) → Filters → Device → ℕ → Levels → Fixed (PlayChannelOf B) → Fixed (MapChannelOf B) → List ℤ → Type 0
+MixesBlock kept filters device n mixer channels maps block = (sources : Sources) → AllStand kept filters (fixed_items channels) (fixed_items maps) sources
+    → block ≡ whole_block (seen filters device) n mixer (fixed_items channels) (fixed_items maps) sources

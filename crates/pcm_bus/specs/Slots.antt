@@ -1,5 +1,7 @@
 -- The channels that are mixed, by slot.
-use Rattle.std.specs.Prelude.{◌≡◌, ◌≢◌, ℕ, ◌+◌, ◌^◌, ◌<◌, List, [], length, map, slice_index_or, All}
+use Rattle.std.specs.Prelude.{◌≡◌, ℕ, ◌+◌, ◌^◌, ◌<◌, List, [], length, map, slice_index_or, All}
+use Rattle.pcm_sequence.specs.declared.fixed.Fixed.{Fixed}
+use Rattle.pcm_sequence.specs.Fixed.{fixed_items, fixed_len}
 use Rattle.pcm_feeder.specs.declared.kind.Kind.{Kind}
 use Rattle.pcm_feeder.specs.Filters.{Filters}
 use Rattle.pcm_feeder.specs.Kept.{Kept}
@@ -25,17 +27,10 @@ PlayAreOf device channels = All (λ channel. channel.path.device ≡ device) cha
 abbrev pub Each : {X : Type 0} → (X → X → Type 0) → List X → List X → Type 0
 Each {X} how old new = (slot : ℕ) (other : X) → slot < length old → how (slice_index_or old slot other) (slice_index_or new slot other)
 
--- what holds of the channel of a slot
-abbrev pub AtSlot : {X : Type 0} → (X → Type 0) → List X → ℕ → Type 0
-AtSlot {X = X} holds channels slot = (other : X) → holds (slice_index_or channels slot other)
-
--- what holds of the channel of a slot, before and after
-abbrev pub ChangesAt : {X : Type 0} → (X → X → Type 0) → ℕ → List X → List X → Type 0
-ChangesAt {X = X} how slot old new = (other : X) → how (slice_index_or old slot other) (slice_index_or new slot other)
-
--- all others stay
-abbrev pub OthersStay : {X : Type 0} → ℕ → List X → List X → Type 0
-OthersStay {X = X} slot old new = (at : ℕ) (other : X) → at ≢ slot → slice_index_or new at other ≡ slice_index_or old at other
+-- what is left of each of some channels, and they are as many
+pub record AreLeft {X : Type 0} (leaves : X → X → Type 0) (old new : Fixed X) : Type 0 where
+  pub len : fixed_len new ≡ fixed_len old
+  pub each : Each leaves (fixed_items old) (fixed_items new)
 
 -- the book of a channel once n frames were mixed, after `mixed` before
 abbrev pub Mixes : {B : Type 0} → DeviceSeen → ℕ → ℕ → PlayChannelOf B → PlayChannelOf B → Type 0
@@ -53,11 +48,11 @@ pub record IsPlayDue {B : Type 0} (kind : B → Kind) (keeps : B → Kept) (filt
   pub given : channel.book.given + frames < 2 ^ 64
   pub counted : channel.book.done + channel.book.written < 2 ^ 64
 
--- what an interrupt that mixes `frames` frames, after `mixed` before, leaves of the channels of a device
-pub record AreMixed {B : Type 0} (kind : B → Kind) (kept : B → Kept) (filters : Filters) (device : Device) (mixed frames : ℕ) (old new : List (PlayChannelOf B)) : Type 0 where
-  pub own : PlayAreOf device new
-  pub moves : Each (PlayMoves kind kept filters [] frames) old new
-  pub books : Each (Mixes (seen filters device) mixed frames) old new
+-- what an interrupt that mixes `frames` frames, after `mixed` before, leaves of a channel of a device
+pub record PlayMixes {B : Type 0} (kind : B → Kind) (kept : B → Kept) (filters : Filters) (device : Device) (mixed frames : ℕ) (old new : PlayChannelOf B) : Type 0 where
+  pub own : new.path.device ≡ device
+  pub moves : PlayMoves kind kept filters [] frames old new
+  pub book : Mixes (seen filters device) mixed frames old new
 
 -- their books, by slot
 abbrev pub map_books_of : {B : Type 0} → List (MapChannelOf B) → List MapBook
@@ -89,7 +84,14 @@ pub record MapPlays {B : Type 0} (kind : B → Kind) (kept : B → Kept) (filter
   pub moves : MapTakes kind kept filters frames old new
   pub area : area_of new ≡ area_of old
 
--- and of those of a device
-pub record AreTaken {B : Type 0} (kind : B → Kind) (kept : B → Kept) (filters : Filters) (device : Device) (frames : ℕ) (old new : List (MapChannelOf B)) : Type 0 where
-  pub own : MapAreOf device new
-  pub each : Each (MapPlays kind kept filters device frames) old new
+-- which is of a device still
+pub record MapMixes {B : Type 0} (kind : B → Kind) (kept : B → Kept) (filters : Filters) (device : Device) (mixed frames : ℕ) (old new : MapChannelOf B) : Type 0 where
+  pub own : new.path.device ≡ device
+  pub plays : MapPlays kind kept filters device frames old new
+
+-- ---- both
+
+-- each channel of a device is ready for an interrupt that mixes `frames` frames
+pub record AreDue {B : Type 0} (kind : B → Kind) (kept : B → Kept) (filters : Filters) (device : Device) (frames : ℕ) (channels : Fixed (PlayChannelOf B)) (maps : Fixed (MapChannelOf B)) : Type 0 where
+  pub playing : All (IsPlayDue kind kept filters device frames) (fixed_items channels)
+  pub mapped : All (IsMapDue kind kept filters device frames) (fixed_items maps)

@@ -1,7 +1,9 @@
 //! The way from the channels that play to the device: what is mixed, and the chain that makes the device's frames of it.
 
 ghost use Rattle.std.specs.Prelude.{◌≡◌, ◌+◌, ◌*◌, ◌^◌, ◌<◌, ◌≤◌, [], length, take, All, IfOk};
-ghost use Rattle.pcm_sequence.specs.Fixed.{fixed_len};
+ghost use Rattle.pcm_sequence.specs.Fixed.{fixed_items, fixed_len};
+ghost use Rattle.pcm_num.specs.Limit.{FitsBits};
+ghost use Rattle.pcm_format.specs.Formats.{bits_of};
 ghost use Rattle.pcm_format.specs.Frames.{frame_bytes};
 ghost use Rattle.pcm_format.specs.Layouts.{channels_of};
 ghost use Rattle.pcm_feeder.specs.Racks.{IsRack};
@@ -10,9 +12,10 @@ ghost use Rattle.pcm_oss.specs.declared.event.TheConstants.{SLOTS};
 ghost use Rattle.pcm_desk.specs.declared.limits.TheConstants.{MIX_FRAMES, RING_FRAMES};
 ghost use Rattle.pcm_desk.specs.Channels.{mixed_by};
 ghost use Rattle.pcm_desk.specs.Device.{mix_frames, seen, unfiltered, HasRates};
-ghost use Rattle.pcm_bus.specs.Buses.{HasMadeSome, TurnsBus};
-ghost use Rattle.pcm_bus.specs.Handovers.{HasMade, IsPlannedBy};
-ghost use Rattle.pcm_bus.specs.Slots.{AreMixed, AreTaken, IsMapDue, IsPlayDue};
+ghost use Rattle.pcm_bus.specs.Blocks.{MixesBlock};
+ghost use Rattle.pcm_bus.specs.Buses.{BusStands, HandsOn, IsRingOf, TurnsBus};
+ghost use Rattle.pcm_bus.specs.Handovers.{CanMake, HasMade, IsPlannedBy};
+ghost use Rattle.pcm_bus.specs.Slots.{AreDue, AreLeft, MapMixes, PlayMixes};
 
 use crate::handover::hand_over;
 use crate::mix::{mix_block, turn_ring};
@@ -83,8 +86,8 @@ impl<B: Feeder> BusOf<B> {
     pub fn turn(
         &mut self,
         tables: &Tables,
-        channels: &mut [PlayChannelOf<B>],
-        maps: &mut [MapChannelOf<B>],
+        channels: &mut Fixed<PlayChannelOf<B>>,
+        maps: &mut Fixed<MapChannelOf<B>>,
         mixer: &MixDev,
         handed: u64,
         here: Here,
@@ -95,98 +98,99 @@ impl<B: Feeder> BusOf<B> {
         requires within { n ≤ self.old.device.ring_frames }
         requires handed { handed + n < 2 ^ 64 }
         requires count { here.mixed + mixed_by (seen tables.now self.old.device) handed n < 2 ^ 64 }
-        requires few { length channels.old + length maps.old ≤ SLOTS }
-        requires due { All (IsPlayDue B.kind B.kept tables.now self.old.device
-            (mixed_by (seen tables.now self.old.device) handed n)) channels.old }
-        requires maps_due { All (IsMapDue B.kind B.kept tables.now self.old.device
-            (mixed_by (seen tables.now self.old.device) handed n)) maps.old }
-        requires planned { IsPlannedBy (seen tables.now self.old.device) self.old.chain }
-        requires made { HasMadeSome B.kept (seen tables.now self.old.device) self.old.chain handed }
-        requires full { length ring.old.bytes ≡ ring.old.size }
-        requires size { ring.old.size ≡ self.old.device.ring_frames * frame_bytes self.old.device.settings }
+        requires few { fixed_len channels.old + fixed_len maps.old ≤ SLOTS }
+        requires due { AreDue B.kind B.kept tables.now self.old.device
+            (mixed_by (seen tables.now self.old.device) handed n) channels.old maps.old }
+        requires stands { BusStands B.kept (seen tables.now self.old.device) self.old.chain handed }
+        requires ring { IsRingOf self.old.device ring.old }
         requires out { length out.old ≡ n * frame_bytes self.old.device.settings }
         ensures device { self.new.device ≡ self.old.device }
-        ensures planned { IsPlannedBy (seen tables.now self.old.device) self.new.chain }
-        ensures made { HasMadeSome B.kept (seen tables.now self.old.device) self.new.chain (handed + n) }
+        ensures stands { BusStands B.kept (seen tables.now self.old.device) self.new.chain (handed + n) }
         ensures count { result ≡ mixed_by (seen tables.now self.old.device) handed n }
-        ensures mixed { AreMixed B.kind B.kept tables.now self.old.device here.mixed result channels.old channels.new }
-        ensures taken { AreTaken B.kind B.kept tables.now self.old.device result maps.old maps.new }
-        ensures size { ring.new.size ≡ ring.old.size }
-        ensures full { length ring.new.bytes ≡ ring.old.size }
+        ensures mixed { AreLeft (PlayMixes B.kind B.kept tables.now self.old.device here.mixed result) channels.old channels.new }
+        ensures taken { AreLeft (MapMixes B.kind B.kept tables.now self.old.device here.mixed result) maps.old maps.new }
+        ensures ring { IsRingOf self.old.device ring.new }
         ensures out { out.new ≡ take (n * frame_bytes self.old.device.settings) ring.old.bytes }
-        ensures turns { TurnsBus B.kept (seen tables.now self.old.device) handed n mixer.now channels.old maps.old
-            self.old.chain self.new.chain ring.old.bytes ring.new.bytes }
+        ensures turns { TurnsBus B.kept (seen tables.now self.old.device) handed n mixer.now (fixed_items channels.old)
+            (fixed_items maps.old) self.old.chain self.new.chain ring.old.bytes ring.new.bytes }
     {
-        turn(
-            self.device,
+        let device = self.device;
+        let count = self.mixed_by(tables, handed, n);
+        let samples = self.samples(count);
+        mix_front(
+            device,
             tables,
             channels,
             maps,
             mixer,
-            &mut self.chain,
-            handed,
             here,
-            n,
+            count,
+            samples,
             &mut self.part,
+            &mut self.sum,
+        );
+        hand_on(
+            device,
+            tables,
+            &mut self.chain,
+            n,
+            samples,
             &mut self.sum,
             &mut self.frames,
             &mut self.bytes,
             ring,
             out,
-        )
+        );
+        count
+    }
+
+    // How many frames an interrupt of `n` mixes, after `handed` were handed over.
+    fn mixed_by(&self, tables: &Tables, handed: u64, n: usize) -> usize
+        requires within { n ≤ self.now.device.ring_frames }
+        requires handed { handed + n < 2 ^ 64 }
+        requires planned { IsPlannedBy (seen tables.now self.now.device) self.now.chain }
+        ensures value { result ≡ mixed_by (seen tables.now self.now.device) handed n }
+        ensures most { result ≤ mix_frames (unfiltered self.now.device) }
+    {
+        let plan = self.chain.plan();
+        (plan.need(handed + n as u64) - plan.need(handed)) as usize
+    }
+
+    // How many samples so many frames of the mix have: the scratch has room for them.
+    fn samples(&self, count: usize) -> usize
+        requires { count ≤ mix_frames (unfiltered self.now.device) }
+        ensures value { result ≡ count * channels_of self.now.device.mix.layout }
+        ensures part { result ≤ fixed_len self.now.part }
+        ensures sum { result ≤ fixed_len self.now.sum }
+    {
+        count * self.device.mix.layout.channels()
     }
 }
 
-// A turn of a bus. `part`, `sum`, `frames` and `bytes` are scratch.
-fn turn<B: Feeder>(
+// Mixes a block of `n` frames into the front of a buffer: so many samples. `part` is scratch.
+fn mix_front<B: Feeder>(
     device: Device,
     tables: &Tables,
-    channels: &mut [PlayChannelOf<B>],
-    maps: &mut [MapChannelOf<B>],
+    channels: &mut Fixed<PlayChannelOf<B>>,
+    maps: &mut Fixed<MapChannelOf<B>>,
     mixer: &MixDev,
-    chain: &mut ChainOf<B>,
-    handed: u64,
     here: Here,
     n: usize,
+    samples: usize,
     part: &mut [i32],
     sum: &mut [i32],
-    frames: &mut [i32],
-    bytes: &mut [u8],
-    ring: &mut ByteRing,
-    out: &mut [u8],
-) -> usize
-    requires within { n ≤ device.ring_frames }
-    requires mix { mix_frames (unfiltered device) ≤ MIX_FRAMES }
-    requires handed { handed + n < 2 ^ 64 }
-    requires count { here.mixed + mixed_by (seen tables.now device) handed n < 2 ^ 64 }
-    requires few { length channels.old + length maps.old ≤ SLOTS }
-    requires due { All (IsPlayDue B.kind B.kept tables.now device
-        (mixed_by (seen tables.now device) handed n)) channels.old }
-    requires maps_due { All (IsMapDue B.kind B.kept tables.now device
-        (mixed_by (seen tables.now device) handed n)) maps.old }
-    requires planned { IsPlannedBy (seen tables.now device) chain.old }
-    requires made { HasMadeSome B.kept (seen tables.now device) chain.old handed }
-    requires part { mix_frames (unfiltered device) * channels_of device.mix.layout ≤ length part.old }
-    requires sum { mix_frames (unfiltered device) * channels_of device.mix.layout ≤ length sum.old }
-    requires frames { n * channels_of device.settings.layout ≤ length frames.old }
-    requires bytes { n * frame_bytes device.settings ≤ length bytes.old }
-    requires full { length ring.old.bytes ≡ ring.old.size }
-    requires size { n * frame_bytes device.settings ≤ ring.old.size }
-    requires out { length out.old ≡ n * frame_bytes device.settings }
-    ensures planned { IsPlannedBy (seen tables.now device) chain.new }
-    ensures made { HasMadeSome B.kept (seen tables.now device) chain.new (handed + n) }
-    ensures count { result ≡ mixed_by (seen tables.now device) handed n }
-    ensures mixed { AreMixed B.kind B.kept tables.now device here.mixed result channels.old channels.new }
-    ensures taken { AreTaken B.kind B.kept tables.now device result maps.old maps.new }
-    ensures size { ring.new.size ≡ ring.old.size }
-    ensures full { length ring.new.bytes ≡ ring.old.size }
-    ensures out { out.new ≡ take (n * frame_bytes device.settings) ring.old.bytes }
-    ensures turns { TurnsBus B.kept (seen tables.now device) handed n mixer.now channels.old maps.old
-        chain.old chain.new ring.old.bytes ring.new.bytes }
+)
+    requires count { here.mixed + n < 2 ^ 64 }
+    requires few { fixed_len channels.old + fixed_len maps.old ≤ SLOTS }
+    requires due { AreDue B.kind B.kept tables.now device n channels.old maps.old }
+    requires samples { samples ≡ n * channels_of device.mix.layout }
+    requires part { samples ≤ length part.old }
+    requires sum { samples ≤ length sum.old }
+    ensures mixed { AreLeft (PlayMixes B.kind B.kept tables.now device here.mixed n) channels.old channels.new }
+    ensures taken { AreLeft (MapMixes B.kind B.kept tables.now device here.mixed n) maps.old maps.new }
+    ensures block { MixesBlock B.kept tables.now device n mixer.now channels.old maps.old (take samples sum.new) }
+    ensures fits { All (FitsBits (bits_of device.mix.format)) (take samples sum.new) }
 {
-    let count = mixed_by(device, tables, chain, handed, n);
-    let samples = count * device.mix.layout.channels();
-    let mixed = &mut sum[..samples];
     mix_block(
         device,
         tables,
@@ -194,30 +198,41 @@ fn turn<B: Feeder>(
         maps,
         mixer,
         here,
-        count,
+        n,
         &mut part[..samples],
-        mixed,
+        &mut sum[..samples],
     );
-    let made = hand_over(device, tables, chain, n, mixed, frames);
-    turn_ring(device.settings, n, made, ring, bytes, out);
-    count
 }
 
-// How many frames an interrupt of `n` mixes, after `handed` were handed over.
-fn mixed_by<B: Feeder>(
+// Hands over what the device gets for so many mixed samples at the front of a buffer, `n` of its frames, and turns its ring by these.
+// `frames` and `bytes` are scratch.
+fn hand_on<B: Feeder>(
     device: Device,
     tables: &Tables,
-    chain: &ChainOf<B>,
-    handed: u64,
+    chain: &mut ChainOf<B>,
     n: usize,
-) -> usize
+    samples: usize,
+    sum: &mut [i32],
+    frames: &mut [i32],
+    bytes: &mut [u8],
+    ring: &mut ByteRing,
+    out: &mut [u8],
+)
+    requires planned { IsPlannedBy (seen tables.now device) chain.old }
+    requires samples { samples ≤ length sum.old }
+    requires fits { All (FitsBits (bits_of device.mix.format)) (take samples sum.old) }
+    requires can { CanMake B.kept (seen tables.now device) chain.old (take samples sum.old) n }
     requires within { n ≤ device.ring_frames }
-    requires mix { mix_frames (unfiltered device) ≤ MIX_FRAMES }
-    requires handed { handed + n < 2 ^ 64 }
-    requires planned { IsPlannedBy (seen tables.now device) chain.now }
-    ensures value { result ≡ mixed_by (seen tables.now device) handed n }
-    ensures most { result ≤ mix_frames (unfiltered device) }
+    requires frames { device.ring_frames * channels_of device.settings.layout ≤ length frames.old }
+    requires bytes { device.ring_frames * frame_bytes device.settings ≤ length bytes.old }
+    requires ring { IsRingOf device ring.old }
+    requires out { length out.old ≡ n * frame_bytes device.settings }
+    ensures planned { IsPlannedBy (seen tables.now device) chain.new }
+    ensures ring { IsRingOf device ring.new }
+    ensures out { out.new ≡ take (n * frame_bytes device.settings) ring.old.bytes }
+    ensures turns { HandsOn B.kept (seen tables.now device) (take samples sum.old) n
+        chain.old chain.new ring.old.bytes ring.new.bytes }
 {
-    let plan = chain.plan();
-    (plan.need(handed + n as u64) - plan.need(handed)) as usize
+    let made = hand_over(device, tables, chain, n, &mut sum[..samples], frames);
+    turn_ring(device.settings, n, made, ring, bytes, out);
 }

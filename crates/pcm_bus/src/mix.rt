@@ -1,20 +1,17 @@
 //! One block of the mix, from all channels in the order of their slots, and the ring that takes what comes of it.
 
 ghost use Rattle.std.specs.Prelude.{◌≡◌, [], ◌+◌, ◌*◌, ◌^◌, ◌<◌, ◌≤◌, length, take, All, IfOk};
+ghost use Rattle.pcm_sequence.specs.Fixed.{fixed_items, fixed_len};
 ghost use Rattle.pcm_num.specs.Limit.{FitsBits};
 ghost use Rattle.pcm_format.specs.Formats.{bits_of};
 ghost use Rattle.pcm_format.specs.Layouts.{channels_of};
 ghost use Rattle.pcm_format.specs.Frames.{frame_bytes};
 ghost use Rattle.pcm_desk.specs.declared.limits.TheConstants.{RING_FRAMES};
-ghost use Rattle.pcm_feeder.specs.Limits.{IsGain};
 ghost use Rattle.pcm_oss.specs.declared.event.TheConstants.{SLOTS};
-ghost use Rattle.pcm_mixdev.specs.Mixers.{slot_gain};
-ghost use Rattle.pcm_desk.specs.Device.{seen, unfiltered};
+ghost use Rattle.pcm_desk.specs.Device.{unfiltered};
 ghost use Rattle.pcm_path.specs.Paths.{HoldBlock};
-ghost use Rattle.pcm_play.specs.Channels.{AddsTo, PlayMoves};
-ghost use Rattle.pcm_map.specs.Channels.{MapAddsTo};
-ghost use Rattle.pcm_bus.specs.Slots.{AreMixed, AreTaken, AtSlot, ChangesAt, IsMapDue, IsPlayDue, MapPlays, Mixes, OthersStay};
-ghost use Rattle.pcm_bus.specs.Blocks.{map_gains, silent_ring, turned_ring, MapsOnto, MixesBlock, MixesOnto};
+ghost use Rattle.pcm_bus.specs.Slots.{AreDue, AreLeft, MapMixes, PlayMixes};
+ghost use Rattle.pcm_bus.specs.Blocks.{map_gains, silent_ring, turned_ring, Added, MixesBlock};
 
 use pcm_desk::{Device, Here};
 use pcm_feeder::{Feeder, Gain, Tables, apply_gain};
@@ -23,14 +20,105 @@ use pcm_map::MapChannelOf;
 use pcm_mixdev::MixDev;
 use pcm_play::PlayChannelOf;
 use pcm_ring::ByteRing;
+use pcm_sequence::Fixed;
 use std::alloc::{AllocError, Global};
 
-// Adds the frames of each channel to a block of `n` frames, at the gain of its slot. The other buffer holds one channel's part meanwhile.
-fn mix_channels<B: Feeder>(
+/// A channel that is mixed, whichever way it goes.
+pub(crate) trait Mixed<B: Feeder>: Drop {
+    ghost use Rattle.std.specs.Prelude.{◌+◌, ◌^◌, ◌<◌, ℕ, ℤ, List, All};
+    ghost use Rattle.pcm_num.specs.Limit.{FitsBits};
+    ghost use Rattle.pcm_format.specs.Formats.{bits_of};
+    ghost use Rattle.pcm_feeder.specs.declared.stage.Gain.{Gain};
+    ghost use Rattle.pcm_feeder.specs.Filters.{Filters};
+    ghost use Rattle.pcm_feeder.specs.Limits.{IsGain};
+    ghost use Rattle.pcm_desk.specs.declared.device.Device.{Device};
+    ghost use Rattle.pcm_path.specs.Paths.{HoldBlock};
+
+    // It is of a device, and ready for an interrupt that mixes so many frames.
+    ghost is_due: { Filters → Device → ℕ → Self → Type 0 };
+
+    // What that leaves of it, after so many frames before.
+    ghost leaves: { Filters → Device → ℕ → ℕ → Self → Self → Type 0 };
+
+    // What it makes of a block of so many frames, at a gain.
+    ghost adds: { Filters → Device → ℕ → Gain → List ℤ → List ℤ → Self → Type 0 };
+
+    fn mix_in(
+        &mut self,
+        device: Device,
+        tables: &Tables,
+        gain: Gain,
+        here: Here,
+        n: usize,
+        frames: &mut [i32],
+        sum: &mut [i32],
+    )
+        requires some { 0 < n }
+        requires gain { IsGain gain }
+        requires mixed { here.mixed + n < 2 ^ 64 }
+        requires due { is_due tables.now device n self.old }
+        requires block { HoldBlock device n frames.old sum.old }
+        ensures left { leaves tables.now device here.mixed n self.old self.new }
+        ensures adds { adds tables.now device n gain sum.old sum.new self.old }
+        ensures fits { All (FitsBits (bits_of device.mix.format)) sum.new };
+}
+
+impl<B: Feeder> Mixed<B> for PlayChannelOf<B> {
+    ghost use Rattle.pcm_play.specs.Channels.{AddsTo};
+    ghost use Rattle.pcm_bus.specs.Slots.{IsPlayDue, PlayMixes};
+
+    ghost is_due = { IsPlayDue B.kind B.kept };
+
+    ghost leaves = { PlayMixes B.kind B.kept };
+
+    ghost adds = { AddsTo B.kept };
+
+    fn mix_in(
+        &mut self,
+        _device: Device,
+        tables: &Tables,
+        gain: Gain,
+        here: Here,
+        n: usize,
+        frames: &mut [i32],
+        sum: &mut [i32],
+    ) {
+        self.refill(tables, n, here, gain, frames, sum);
+    }
+}
+
+impl<B: Feeder> Mixed<B> for MapChannelOf<B> {
+    ghost use Rattle.pcm_map.specs.Channels.{MapAddsTo};
+    ghost use Rattle.pcm_bus.specs.Slots.{IsMapDue, MapMixes};
+
+    ghost is_due = { IsMapDue B.kind B.kept };
+
+    ghost leaves = { MapMixes B.kind B.kept };
+
+    ghost adds = { MapAddsTo B.kept };
+
+    fn mix_in(
+        &mut self,
+        _device: Device,
+        tables: &Tables,
+        gain: Gain,
+        _here: Here,
+        n: usize,
+        frames: &mut [i32],
+        sum: &mut [i32],
+    ) {
+        self.refill(tables, n, gain, frames, sum);
+    }
+}
+
+// Adds the frames of each channel to a block of `n` frames, at the gain of its slot. These slots come after `first` others. `frames` holds
+// one channel's part meanwhile.
+fn mix_each<B: Feeder, C: Mixed<B>>(
     device: Device,
     tables: &Tables,
-    channels: &mut [PlayChannelOf<B>],
+    channels: &mut Fixed<C>,
     mixer: &MixDev,
+    first: usize,
     here: Here,
     n: usize,
     frames: &mut [i32],
@@ -38,96 +126,18 @@ fn mix_channels<B: Feeder>(
 )
     requires some { 0 < n }
     requires count { here.mixed + n < 2 ^ 64 }
-    requires few { length channels.old ≤ SLOTS }
-    requires due { All (IsPlayDue B.kind B.kept tables.now device n) channels.old }
+    requires few { first + fixed_len channels.old ≤ SLOTS }
+    requires due { All (C.is_due tables.now device n) (fixed_items channels.old) }
     requires block { HoldBlock device n frames.old sum.old }
-    ensures mixed { AreMixed B.kind B.kept tables.now device here.mixed n channels.old channels.new }
-    ensures sum { MixesOnto B.kept tables.now device n (slot_gain mixer.now) channels.old sum.old sum.new }
+    ensures left { AreLeft (C.leaves tables.now device here.mixed n) channels.old channels.new }
+    ensures sum { Added (C.adds tables.now device n) (map_gains mixer.now first) (fixed_items channels.old)
+        (fixed_len channels.old) sum.old sum.new }
     ensures fits { All (FitsBits (bits_of device.mix.format)) sum.new }
 {
-    for slot in 0..channels.len() {
-        let gain = mixer.slot_gain(slot);
-        mix_slot(device, tables, channels, slot, gain, here, n, frames, sum);
+    for slot in 0..channels.iter().len() {
+        let gain = mixer.slot_gain(first + slot);
+        channels[slot].mix_in(device, tables, gain, here, n, frames, sum);
     }
-}
-
-// Adds the frames of one channel.
-fn mix_slot<B: Feeder>(
-    device: Device,
-    tables: &Tables,
-    channels: &mut [PlayChannelOf<B>],
-    slot: usize,
-    gain: Gain,
-    here: Here,
-    n: usize,
-    frames: &mut [i32],
-    sum: &mut [i32],
-)
-    requires some { 0 < n }
-    requires gain { IsGain gain }
-    requires count { here.mixed + n < 2 ^ 64 }
-    requires there { slot < length channels.old }
-    requires due { AtSlot (IsPlayDue B.kind B.kept tables.now device n) channels.old slot }
-    requires block { HoldBlock device n frames.old sum.old }
-    ensures others { OthersStay slot channels.old channels.new }
-    ensures own { AtSlot (λ channel. channel.path.device ≡ device) channels.new slot }
-    ensures moves { ChangesAt (PlayMoves B.kind B.kept tables.now [] n) slot channels.old channels.new }
-    ensures book { ChangesAt (Mixes (seen tables.now device) here.mixed n) slot channels.old channels.new }
-    ensures sum { AtSlot (AddsTo B.kept tables.now device n gain sum.old sum.new) channels.old slot }
-    ensures fits { All (FitsBits (bits_of device.mix.format)) sum.new }
-{
-    channels[slot].refill(tables, n, here, gain, frames, sum);
-}
-
-// Adds the frames of each mapped channel to a block of `n` frames, at the gain of its slot. These slots come after `slots` that play.
-// The other buffer holds one channel's part meanwhile.
-fn mix_maps<B: Feeder>(
-    device: Device,
-    tables: &Tables,
-    maps: &mut [MapChannelOf<B>],
-    mixer: &MixDev,
-    slots: usize,
-    n: usize,
-    frames: &mut [i32],
-    sum: &mut [i32],
-)
-    requires some { 0 < n }
-    requires few { slots + length maps.old ≤ SLOTS }
-    requires due { All (IsMapDue B.kind B.kept tables.now device n) maps.old }
-    requires block { HoldBlock device n frames.old sum.old }
-    ensures taken { AreTaken B.kind B.kept tables.now device n maps.old maps.new }
-    ensures sum { MapsOnto B.kept tables.now device n (map_gains mixer.now slots) maps.old sum.old sum.new }
-    ensures fits { All (FitsBits (bits_of device.mix.format)) sum.new }
-{
-    for slot in 0..maps.len() {
-        let gain = mixer.slot_gain(slots + slot);
-        mix_map(device, tables, maps, slot, gain, n, frames, sum);
-    }
-}
-
-// Adds the frames of one mapped channel.
-fn mix_map<B: Feeder>(
-    device: Device,
-    tables: &Tables,
-    maps: &mut [MapChannelOf<B>],
-    slot: usize,
-    gain: Gain,
-    n: usize,
-    frames: &mut [i32],
-    sum: &mut [i32],
-)
-    requires some { 0 < n }
-    requires gain { IsGain gain }
-    requires there { slot < length maps.old }
-    requires due { AtSlot (IsMapDue B.kind B.kept tables.now device n) maps.old slot }
-    requires block { HoldBlock device n frames.old sum.old }
-    ensures others { OthersStay slot maps.old maps.new }
-    ensures own { AtSlot (λ channel. channel.path.device ≡ device) maps.new slot }
-    ensures plays { ChangesAt (MapPlays B.kind B.kept tables.now device n) slot maps.old maps.new }
-    ensures sum { AtSlot (MapAddsTo B.kept tables.now device n gain sum.old sum.new) maps.old slot }
-    ensures fits { All (FitsBits (bits_of device.mix.format)) sum.new }
-{
-    maps[slot].refill(tables, n, gain, frames, sum);
 }
 
 /// Mixes a block of `n` frames from silence on, after what was mixed before: first of the channels that play, then of the mapped ones, each
@@ -135,8 +145,8 @@ fn mix_map<B: Feeder>(
 pub fn mix_block<B: Feeder>(
     device: Device,
     tables: &Tables,
-    channels: &mut [PlayChannelOf<B>],
-    maps: &mut [MapChannelOf<B>],
+    channels: &mut Fixed<PlayChannelOf<B>>,
+    maps: &mut Fixed<MapChannelOf<B>>,
     mixer: &MixDev,
     here: Here,
     n: usize,
@@ -144,21 +154,20 @@ pub fn mix_block<B: Feeder>(
     sum: &mut [i32],
 )
     requires count { here.mixed + n < 2 ^ 64 }
-    requires due { All (IsPlayDue B.kind B.kept tables.now device n) channels.old }
-    requires maps_due { All (IsMapDue B.kind B.kept tables.now device n) maps.old }
-    requires few { length channels.old + length maps.old ≤ SLOTS }
+    requires few { fixed_len channels.old + fixed_len maps.old ≤ SLOTS }
+    requires due { AreDue B.kind B.kept tables.now device n channels.old maps.old }
     requires part { length part.old ≡ n * channels_of device.mix.layout }
     requires sum { length sum.old ≡ n * channels_of device.mix.layout }
-    ensures mixed { AreMixed B.kind B.kept tables.now device here.mixed n channels.old channels.new }
-    ensures taken { AreTaken B.kind B.kept tables.now device n maps.old maps.new }
+    ensures mixed { AreLeft (PlayMixes B.kind B.kept tables.now device here.mixed n) channels.old channels.new }
+    ensures taken { AreLeft (MapMixes B.kind B.kept tables.now device here.mixed n) maps.old maps.new }
     ensures block { MixesBlock B.kept tables.now device n mixer.now channels.old maps.old sum.new }
     ensures fits { All (FitsBits (bits_of device.mix.format)) sum.new }
 {
     sum.fill(0);
     if n > 0 {
-        let slots = channels.len();
-        mix_channels(device, tables, channels, mixer, here, n, part, sum);
-        mix_maps(device, tables, maps, mixer, slots, n, part, sum);
+        let slots = channels.iter().len();
+        mix_each(device, tables, channels, mixer, 0, here, n, part, sum);
+        mix_each(device, tables, maps, mixer, slots, here, n, part, sum);
         apply_gain(mixer.master(), device.mix.layout, sum);
     }
 }
