@@ -1,9 +1,11 @@
 -- The channels of a device, one of them changed or all refilled.
-use Rattle.std.proofs.Common.{◌≡◌, ℕ, ℤ, ◌*◌, ◌+◌, ◌<◌, ◌≤◌, Bool, true, false, cond, List, [], ◌++◌, length, map, set, get_or, take, All, refl, sym, ap, ◌∙◌, subst, inl, inr, arith, get_or-set_same, get_or-set_other}
+use Rattle.std.proofs.Common.{◌≡◌, ℕ, ◌*◌, ◌+◌, ◌<◌, ◌≤◌, Bool, true, false, cond, List, [], ◌++◌, length, map, set, get_or, take, All, refl, sym, ap, ◌∙◌, subst, inl, inr, arith, get_or-set_same, get_or-set_other}
 use Rattle.std.specs.Prelude.{not, ◌&&◌, ◌||◌}
 use Rattle.std.proofs.Props.{props}
 use mathlib.Core.HLevel.{is_prop→PathP}
-use Rattle.pcm_sequence.specs.Fixed.{fixed_len}
+use Rattle.pcm_sequence.specs.declared.fixed.Fixed.{Fixed}
+use Rattle.pcm_sequence.specs.Fixed.{fixed_items, fixed_len}
+use Rattle.pcm_sequence.proofs.Items.{items-count}
 use Rattle.pcm_format.specs.Formats.{code_of}
 use Rattle.pcm_format.specs.Frames.{Frame, frame_bytes}
 use Rattle.pcm_format.specs.Layouts.{channels_of}
@@ -13,20 +15,17 @@ use Rattle.std.proofs.lemmas.List.{append-nil, get_or-map, map-set, length-map, 
 use Rattle.std.proofs.lemmas.Bool.{cases_eq, eq-eqb}
 use Rattle.pcm_feeder.specs.declared.kind.Kind.{Kind}
 use Rattle.pcm_feeder.specs.Filters.{Filters}
-use Rattle.pcm_feeder.specs.Limits.{IsRate}
-use Rattle.pcm_format.specs.declared.settings.TheConstants.{RATE_LEAST, RATE_MOST}
 use Rattle.pcm_feeder.specs.Kept.{Kept}
 use Rattle.pcm_desk.specs.declared.play_book.PlayBook.{PlayBook}
 use Rattle.pcm_desk.specs.declared.device.Device.{Device}
 use Rattle.pcm_desk.specs.declared.here.Here.{Here}
 use Rattle.pcm_desk.specs.Device.{DeviceSeen, HasRates, mixed_for, mixed_slots, passed_for, seen, unfiltered}
-use Rattle.pcm_desk.specs.PlayBooks.{play_settled}
 use Rattle.pcm_desk.specs.declared.record_book.RecordBook.{RecordBook}
 use Rattle.pcm_desk.specs.declared.map_book.MapBook.{MapBook}
 use Rattle.pcm_desk.specs.declared.opening.Opening.{Opening}
 use Rattle.pcm_desk.specs.RunStates.{is_unheld}
 use Rattle.pcm_desk.specs.MapBooks.{taken_of}
-use Rattle.pcm_desk.specs.Channels.{capturing, map_passing, mixed_by, mixing, play_passing, play_rate_at}
+use Rattle.pcm_desk.specs.Channels.{capturing, map_passing, mixed_by, play_passing}
 use Rattle.pcm_play.specs.declared.channel.PlayChannelOf.{PlayChannelOf}
 use Rattle.pcm_bus.proofs.Channels.{some_channel}
 use Rattle.pcm_vchan.specs.declared.parent.ParentOf.{ParentOf}
@@ -36,7 +35,7 @@ use Rattle.pcm_map.specs.declared.channel.MapChannelOf.{MapChannelOf}
 use Rattle.pcm_map.specs.Channels.{IsMapReady, MapMoves, area_of}
 use Rattle.pcm_map.proofs.Moving.{moves-nothing}
 use Rattle.pcm_sound.specs.Areas.{is_recut, silences, silent_area}
-use Rattle.pcm_bus.specs.Slots.{AreMixed, Each, IsPlayDue, Mixes, PlayAreOf, map_books_of, play_books_of}
+use Rattle.pcm_bus.specs.Slots.{AreLeft, Each, IsPlayDue, PlayMixes, map_books_of, play_books_of}
 use Rattle.pcm_vchan.specs.Slots.{MapKeeps, Passes, Settles, record_books_of}
 use Rattle.pcm_play.specs.Channels.{IsPlayReady, MayEndRun, PlayMoves, PlayStands}
 
@@ -168,15 +167,6 @@ map_books_of-passed {B = B} device handed n = books-changed (λ (channel : MapCh
 
 -- ---- a parent
 
-rate-prop : (rate : ℕ) (x y : IsRate rate) → x ≡ y
-rate-prop rate x y = λ i. record {
-  least = is_prop→PathP (λ j. RATE_LEAST ≤ rate) (λ j. hlevel props) x.least y.least i;
-  most = is_prop→PathP (λ j. rate ≤ RATE_MOST) (λ j. hlevel props) x.most y.most i;
-}
-
-rates-prop : (device : Device) (x y : HasRates device) → x ≡ y
-rates-prop device x y = λ i. record { rate = rate-prop device.settings.rate x.rate y.rate i; mix_rate = rate-prop device.mix.rate x.mix_rate y.mix_rate i }
-
 -- a parent with other channels that are the old ones is the old one
 pub parent_same : {B : Type 0} (new old : ParentOf B) (device : new.device ≡ old.device) (channels : new.channels ≡ old.channels) (recorders : new.recorders ≡ old.recorders) (maps : new.maps ≡ old.maps) (mixer : new.mixer ≡ old.mixer) (bus : new.bus ≡ old.bus) (ring : new.ring ≡ old.ring)
     (handed : new.handed ≡ old.handed) → new.mixed ≡ old.mixed → (passed : new.passed ≡ old.passed) → new ≡ old
@@ -192,7 +182,7 @@ parent_same {B = B} new old device channels recorders maps mixer bus ring handed
   mixed = mixed i;
   passed = passed i;
   passed_is = is_prop→PathP (λ j. passed j ≡ passed_for (unfiltered (device j)) (handed j)) (λ j. hlevel props) new.passed_is old.passed_is i;
-  rates = is_prop→PathP (λ j. HasRates (device j)) (λ j. rates-prop (device j)) new.rates old.rates i;
+  rates = is_prop→PathP (λ j. HasRates (device j)) (λ j. hlevel props) new.rates old.rates i;
   bus_of = is_prop→PathP (λ j. (bus j).device ≡ device j) (λ j. hlevel props) new.bus_of old.bus_of i;
   within = is_prop→PathP (λ j. (device j).ring_frames ≤ RING_FRAMES) (λ j. hlevel props) new.within old.within i;
   slots = is_prop→PathP (λ j. fixed_len (channels j) ≡ (device j).play_slots) (λ j. hlevel props) new.slots old.slots i;
@@ -210,12 +200,6 @@ parent_same {B = B} new old device channels recorders maps mixer bus ring handed
 moves-settled : {B : Type 0} (kind : B → Kind) (kept : B → Kept) (filters : Filters) (frames : ℕ) (old between new : PlayChannelOf B) → PlayMoves kind kept filters [] frames old between → PlayMoves kind kept filters [] 0 between new
     → PlayMoves kind kept filters [] frames old new
 moves-settled {B = B} kind kept filters frames old between new first last =
-    let fewer = first.written in
-    let written = last.written in
-    let counted = first.counted in
-    let least = last.counted in
-    let gives = first.given in
-    let given = last.given in
     record {
       kinds = λ h. last.kinds (first.kinds h);
       planned = λ p. last.planned (first.planned p);
@@ -229,59 +213,32 @@ moves-settled {B = B} kind kept filters frames old between new first last =
     }
 
 -- a channel of a device after an interrupt that mixes `frames` frames and gives `n` to the device
-record IsPassed {B : Type 0} (kind : B → Kind) (kept : B → Kept) (filters : Filters) (device : Device) (handed n frames : ℕ) (old new : PlayChannelOf B) : Type 0 where
+pub record IsPassed {B : Type 0} (kind : B → Kind) (kept : B → Kept) (filters : Filters) (device : Device) (handed n frames : ℕ) (old new : PlayChannelOf B) : Type 0 where
   pub own : new.path.device ≡ device
   pub moves : PlayMoves kind kept filters [] frames old new
   pub book : Passes (seen filters device) handed n old new
 
-channel-passed : {B : Type 0} (kind : B → Kind) (kept : B → Kept) (filters : Filters) (device : Device) (handed n frames mixed : ℕ) (here : Here) (old between new : PlayChannelOf B)
-    → frames ≡ mixed_by (seen filters device) handed n → mixed ≡ mixed_for (seen filters device) handed → here.passed ≡ passed_for (seen filters device) (handed + n)
-    → IsPlayDue kind kept filters device frames old → between.path.device ≡ device → PlayMoves kind kept filters [] frames old between → Mixes (seen filters device) mixed frames old between → Settles kind kept here between new
-    → IsPassed kind kept filters device handed n frames old new
-channel-passed {B = B} kind kept filters device handed n frames mixed here old between new count level passed due own moves book settled = record {
-  own = settled.device_same ∙ own;
-  moves = moves-settled kind kept filters frames old between new moves (settled.moves filters);
-  book =
-      settled.book filters (moves.planned due.ready.planned)
-      ∙ ap (λ (d : Device). play_settled (play_rate_at (seen filters d) between.book) here.passed between.book) own
-      ∙ ap (λ (y : ℤ). play_settled (play_rate_at seen_device between.book) y between.book) passed
-      ∙ ap (λ (b : PlayBook). play_settled (play_rate_at seen_device b) (passed_for seen_device (handed + n)) b) (book
-      ∙ ap (λ (q : ℕ). mixing seen_device mixed q old.book) count
-      ∙ ap (λ (m : ℕ). mixing seen_device m (mixed_by seen_device handed n) old.book) level);
-}
-  where
-    seen_device : DeviceSeen
-    seen_device = seen filters device
+-- all of them are so, which were mixed, and whose runs may have ended then
+pub all-passed : {B : Type 0} {kind : B → Kind} {kept : B → Kept} {filters : Filters} {device : Device} (handed n : ℕ) {frames mixed : ℕ} {here : Here} {old between : Fixed (PlayChannelOf B)} (new : Fixed (PlayChannelOf B))
+    → frames ≡ mixed_by (seen filters device) handed n → mixed ≡ mixed_for (seen filters device) handed → here.passed ≡ passed_for (seen filters device) (handed + n) → All (IsPlayDue kind kept filters device frames) (fixed_items old)
+    → AreLeft (PlayMixes kind kept filters device mixed frames) old between → Each (Settles kind kept here) (fixed_items between) (fixed_items new) → Each (IsPassed kind kept filters device handed n frames) (fixed_items old) (fixed_items new)
+all-passed {kind = kind} {kept = kept} {filters = filters} handed n {frames = frames} {old = old} {between = between} new count level passed due m settled = λ slot other within.
+    let p = m.each slot other within in
+    let s = settled slot other (omega (arith, items-count old, items-count between, m.len)) in
+    let own = p.own in
+    let book = p.book in
+    let last = s.book filters (p.moves.planned (due slot other within).ready.planned) in
+    record {
+      own = s.device_same ∙ own;
+      moves = moves-settled kind kept filters frames (get_or (fixed_items old) slot other) (get_or (fixed_items between) slot other) (get_or (fixed_items new) slot other) p.moves (s.moves filters);
+      book = cc;
+    }
 
--- all channels of a device, each as one
-pub record ArePassed {B : Type 0} (kind : B → Kind) (kept : B → Kept) (filters : Filters) (device : Device) (handed n frames : ℕ) (old new : List (PlayChannelOf B)) : Type 0 where
-  pub own : PlayAreOf device new
-  pub moves : Each (PlayMoves kind kept filters [] frames) old new
-  pub books : Each (Passes (seen filters device) handed n) old new
-
-pub all-passed : {B : Type 0} (kind : B → Kind) (kept : B → Kept) (filters : Filters) (device : Device) (handed n frames mixed : ℕ) (here : Here) (old between new : List (PlayChannelOf B))
-    → frames ≡ mixed_by (seen filters device) handed n → mixed ≡ mixed_for (seen filters device) handed → here.passed ≡ passed_for (seen filters device) (handed + n)
-    → length between ≡ length old → length new ≡ length between → All (IsPlayDue kind kept filters device frames) old → AreMixed kind kept filters device mixed frames old between → Each (Settles kind kept here) between new
-    → ArePassed kind kept filters device handed n frames old new
-all-passed {B = B} kind kept filters device handed n frames mixed here old between new count level passed same long due m settled = record {
-  own = λ slot other within. (each slot other (omega arith)).own;
-  moves = λ slot other within. (each slot other within).moves;
-  books = λ slot other within. (each slot other within).book;
-}
-  where
-    each : Each (IsPassed kind kept filters device handed n frames) old new
-    each = λ slot other within.
-        let there : slot < length between = omega arith in
-        channel-passed kind kept filters device handed n frames mixed here (get_or old slot other) (get_or between slot other) (get_or new slot other) count level passed
-        (due slot other within) (m.own slot other there) (m.moves slot other within) (m.books slot other within) (settled slot other there)
-
--- each of them may end a run once it was refilled
-pub may-settle : {B : Type 0} (kind : B → Kind) (kept : B → Kept) (filters : Filters) (device : Device) (frames mixed : ℕ) (old between : List (PlayChannelOf B))
-    → length between ≡ length old → All (IsPlayDue kind kept filters device frames) old → AreMixed kind kept filters device mixed frames old between → All (MayEndRun kind) between
-may-settle kind kept filters device frames mixed old between same due m = λ slot other within.
-    let there : slot < length old = omega arith in
+-- each of them may end a run once it was mixed
+pub may-settle : {B : Type 0} {kind : B → Kind} {kept : B → Kept} {filters : Filters} {device : Device} {frames mixed : ℕ} {old between : Fixed (PlayChannelOf B)}
+    → All (IsPlayDue kind kept filters device frames) (fixed_items old) → AreLeft (PlayMixes kind kept filters device mixed frames) old between → All (MayEndRun kind) (fixed_items between)
+may-settle {old = old} {between = between} due m = λ slot other within.
+    let there : slot < length (fixed_items old) = omega (arith, items-count old, items-count between, m.len) in
     let d = due slot other there in
-    let moves = m.moves slot other there in
-    let counted = moves.counted in
-    let room = d.counted in
+    let moves = (m.each slot other there).moves in
     record { kinds = moves.kinds d.ready.kinds; counted = omega arith }
