@@ -1,7 +1,8 @@
 -- The channels that are mixed, by slot.
-use Rattle.std.specs.Prelude.{◌≡◌, ℕ, ◌+◌, ◌^◌, ◌<◌, List, [], length, map, slice_index_or, All}
+use Rattle.std.specs.Prelude.{◌≡◌, ℕ, ◌+◌, ◌^◌, ◌<◌, ◌≤◌, List, [], length, map, slice_index_or, All}
 use Rattle.pcm_sequence.specs.declared.fixed.Fixed.{Fixed}
 use Rattle.pcm_sequence.specs.Fixed.{fixed_items, fixed_len}
+use Rattle.pcm_oss.specs.declared.event.TheConstants.{SLOTS}
 use Rattle.pcm_feeder.specs.declared.kind.Kind.{Kind}
 use Rattle.pcm_feeder.specs.Filters.{Filters}
 use Rattle.pcm_feeder.specs.Kept.{Kept}
@@ -91,7 +92,10 @@ pub record MapMixes {B : Type 0} (kind : B → Kind) (kept : B → Kept) (filter
 
 -- ---- both
 
--- each channel of a device is ready for an interrupt that mixes `frames` frames
-pub record AreDue {B : Type 0} (kind : B → Kind) (kept : B → Kept) (filters : Filters) (device : Device) (frames : ℕ) (channels : Fixed (PlayChannelOf B)) (maps : Fixed (MapChannelOf B)) : Type 0 where
+-- each channel of a device is ready for an interrupt that mixes `frames` frames after `mixed`, the channels are few enough for their
+-- slots, and the frames for a count
+pub record AreDue {B : Type 0} (kind : B → Kind) (kept : B → Kept) (filters : Filters) (device : Device) (mixed frames : ℕ) (channels : Fixed (PlayChannelOf B)) (maps : Fixed (MapChannelOf B)) : Type 0 where
+  pub count : mixed + frames < 2 ^ 64
+  pub few : fixed_len channels + fixed_len maps ≤ SLOTS
   pub playing : All (IsPlayDue kind kept filters device frames) (fixed_items channels)
   pub mapped : All (IsMapDue kind kept filters device frames) (fixed_items maps)

@@ -97,9 +97,7 @@ impl<B: Feeder> BusOf<B> {
     ) -> usize
         requires within { n ≤ self.old.device.ring_frames }
         requires handed { handed + n < 2 ^ 64 }
-        requires count { here.mixed + mixed_by (seen tables.now self.old.device) handed n < 2 ^ 64 }
-        requires few { fixed_len channels.old + fixed_len maps.old ≤ SLOTS }
-        requires due { AreDue B.kind B.kept tables.now self.old.device
+        requires due { AreDue B.kind B.kept tables.now self.old.device here.mixed
             (mixed_by (seen tables.now self.old.device) handed n) channels.old maps.old }
         requires stands { BusStands B.kept (seen tables.now self.old.device) self.old.chain handed }
         requires ring { IsRingOf self.old.device ring.old }
@@ -180,9 +178,7 @@ fn mix_front<B: Feeder>(
     part: &mut [i32],
     sum: &mut [i32],
 )
-    requires count { here.mixed + n < 2 ^ 64 }
-    requires few { fixed_len channels.old + fixed_len maps.old ≤ SLOTS }
-    requires due { AreDue B.kind B.kept tables.now device n channels.old maps.old }
+    requires due { AreDue B.kind B.kept tables.now device here.mixed n channels.old maps.old }
     requires samples { samples ≡ n * channels_of device.mix.layout }
     requires part { samples ≤ length part.old }
     requires sum { samples ≤ length sum.old }

@@ -132,7 +132,7 @@ fn mix_each<B: Feeder, C: Mixed<B>>(
     ensures left { AreLeft (C.leaves tables.now device here.mixed n) channels.old channels.new }
     ensures sum { Added (C.adds tables.now device n) (map_gains mixer.now first) (fixed_items channels.old)
         (fixed_len channels.old) sum.old sum.new }
-    ensures fits { All (FitsBits (bits_of device.mix.format)) sum.new }
+    ensures block { HoldBlock device n frames.new sum.new }
 {
     for slot in 0..channels.iter().len() {
         let gain = mixer.slot_gain(first + slot);
@@ -153,9 +153,7 @@ pub fn mix_block<B: Feeder>(
     part: &mut [i32],
     sum: &mut [i32],
 )
-    requires count { here.mixed + n < 2 ^ 64 }
-    requires few { fixed_len channels.old + fixed_len maps.old ≤ SLOTS }
-    requires due { AreDue B.kind B.kept tables.now device n channels.old maps.old }
+    requires due { AreDue B.kind B.kept tables.now device here.mixed n channels.old maps.old }
     requires part { length part.old ≡ n * channels_of device.mix.layout }
     requires sum { length sum.old ≡ n * channels_of device.mix.layout }
     ensures mixed { AreLeft (PlayMixes B.kind B.kept tables.now device here.mixed n) channels.old channels.new }

@@ -32,8 +32,7 @@ mix_each-requires-clause-block g c =
 pub apply_gain-requires-clause-whole : goal.apply_gain-requires-clause-whole
 apply_gain-requires-clause-whole g c =
     let size = channels_of c.args.device.mix.layout in
-    let long : length c.mix_each-then-n-gt0.new.sum ≡ c.args.n * size = omega (arith, c.mix_each-then-n-gt0.auto.sum, c.mix_each.auto.sum, c.fill.ensures.len, c.requires.sum) in
-    ap (λ k. k % size) long ∙ mul-mod_left c.args.n size
+    ap (λ k. k % size) c.mix_each-then-n-gt0.ensures.block.sum_whole ∙ mul-mod_left c.args.n size
 
 pub returns-then-n-gt0-clause-block : goal.returns-then-n-gt0-clause-block
 returns-then-n-gt0-clause-block g c = λ sources stand.
@@ -47,7 +46,7 @@ returns-then-n-gt0-clause-block g c = λ sources stand.
 pub returns-then-n-gt0-clause-fits : goal.returns-then-n-gt0-clause-fits
 returns-then-n-gt0-clause-fits g c =
     let bits = bits_of c.args.device.mix.format in
-    subst (All (FitsBits bits)) (sym c.apply_gain.ensures) (faded-fits bits c.args.device.mix.layout c.master.result c.mix_each-then-n-gt0.new.sum c.master.ensures.limits c.mix_each-then-n-gt0.ensures.fits)
+    subst (All (FitsBits bits)) (sym c.apply_gain.ensures) (faded-fits bits c.args.device.mix.layout c.master.result c.mix_each-then-n-gt0.new.sum c.master.ensures.limits c.mix_each-then-n-gt0.ensures.block.fits)
 
 pub returns-else-n-gt0-clause-mixed : goal.returns-else-n-gt0-clause-mixed
 returns-else-n-gt0-clause-mixed g c =

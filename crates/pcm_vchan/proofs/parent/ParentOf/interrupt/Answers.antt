@@ -40,7 +40,10 @@ pub turn-mixed-requires-clause-due : goal.turn-mixed-requires-clause-due
 turn-mixed-requires-clause-due g c =
     let old = c.args.self.now in
     let count : Device → ℕ = λ device. mixed_by (seen c.args.tables.now device) old.handed c.args.n in
+    let mixed = ap (λ (here : Here). here.mixed) c.here-before.ensures in
     record {
+      count = omega (arith, mixed, bus-mixes c.args.tables.now c.args.n _ old refl, (roomy c.requires.some c.requires.within c.requires.due c.requires.counts).mixed_fit);
+      few = omega (arith, old.slots, old.maps_count, old.slots_within);
       playing = subst (λ (device : Device). All (IsPlayDue g.B.Feeder.kind g.B.Feeder.kept c.args.tables.now device (count device)) (play_channels old)) (sym old.bus_of) c.requires.due.playing;
       mapped = subst (λ (device : Device). All (IsMapDue g.B.Feeder.kind g.B.Feeder.kept c.args.tables.now device (count device)) (map_channels old)) (sym old.bus_of) c.requires.due.mapped;
     }
@@ -53,11 +56,6 @@ pass-requires-clause-handed g c = (roomy c.requires.some c.requires.within c.req
 
 pub pass-requires-clause-passed : goal.pass-requires-clause-passed
 pass-requires-clause-passed g c = (roomy c.requires.some c.requires.within c.requires.due c.requires.counts).passed_near
-
-pub turn-mixed-requires-clause-count : goal.turn-mixed-requires-clause-count
-turn-mixed-requires-clause-count g c =
-    let mixed = ap (λ (here : Here). here.mixed) c.here-before.ensures in
-    omega (arith, mixed, bus-mixes c.args.tables.now c.args.n _ c.args.self.now refl, (roomy c.requires.some c.requires.within c.requires.due c.requires.counts).mixed_fit)
 
 pub pass-requires-clause-mixed : goal.pass-requires-clause-mixed
 pass-requires-clause-mixed g c =
