@@ -18,7 +18,7 @@ use Rattle.pcm_desk.specs.Device.{DeviceSeen, here_at}
 use Rattle.pcm_desk.specs.Channels.{Channel, Grouping, channel_begun, own_join, own_turn, ungrouped}
 use Rattle.pcm_desk.specs.Desk.{Desk, DeskTurn, after, channel_at, group_of, grouping_at, groups_after, held_by, is_member, with_channel_at}
 use Rattle.pcm_desk.specs.Own.{GoesByDescriptor, GoesByEach, HoldApart, IsIsolatedBy, MembersWait, StartsTogether, descriptor_of, held_after}
-use Rattle.pcm_desk.specs.OwnEvents.{JoinsNone, Opens, closes, concerns, joins, own_after, own_events, own_replies, replies_to, unnamed}
+use Rattle.pcm_desk.specs.OwnEvents.{JoinsNone, Opens, OpensAlone, closes, concerns, joins, own_after, own_events, own_replies, replies_to, unnamed}
 use Rattle.pcm_desk.specs.Events.{after_all, frames_taken}
 use Rattle.pcm_desk.specs.declared.turn.Turn.{Turn}
 use Rattle.pcm_desk.proofs.Apart.{apart-after}
@@ -315,29 +315,31 @@ pub opened-none : (device : DeviceSeen) (fd : ℕ) (way : Way) (settings : Setti
 opened-none device fd way settings held old new w o = alone_is (group_of new held) (alone_opened device fd way settings held old new w o)
 
 -- the replies to the events of an opening
-opening_told : (device : DeviceSeen) (fd : ℕ) (way : Way) (settings : Settings) (held : Held) (old new : Desk) (events : List Event) → HoldApart old → MembersWait device old → Opens device fd way settings held old new → JoinsNone device fd new events
+opening_told : (device : DeviceSeen) (fd : ℕ) (way : Way) (settings : Settings) (held : Held) (old new : Desk) (events : List Event) → OpensAlone device fd way settings held old new events
     → replies_to device fd new events ≡ own_replies device old.handed (channel_begun way settings) (own_events fd events)
-opening_told device fd way settings held old new events h w o none =
-    let told = replies-own device new fd held events (apart_opened device fd way settings held old new h o) o.holds (alone_opened device fd way settings held old new w o) none in
+opening_told device fd way settings held old new events a =
+    let o = a.opens in
+    let told = replies-own device new fd held events (apart_opened device fd way settings held old new a.apart o) o.holds (alone_opened device fd way settings held old new a.waits o) a.joins_none in
     cc (told, begun-own device fd way settings held old new o, handed_opened device fd way settings held old new o)
 
 -- Two openings with the same settings and the same own events get the same replies, where the device had been given as many frames before.
-pub alike-told : (device : DeviceSeen) (fd at : ℕ) (way : Way) (settings : Settings) (held theirs : Held) (one new other anew : Desk) (events others : List Event) → HoldApart one → HoldApart other → MembersWait device one → MembersWait device other → one.handed ≡ other.handed
-    → Opens device fd way settings held one new → Opens device at way settings theirs other anew → JoinsNone device fd new events → JoinsNone device at anew others → own_events fd events ≡ own_events at others
+pub alike-told : (device : DeviceSeen) (fd at : ℕ) (way : Way) (settings : Settings) (held theirs : Held) (one new other anew : Desk) (events others : List Event) → one.handed ≡ other.handed
+    → OpensAlone device fd way settings held one new events → OpensAlone device at way settings theirs other anew others → own_events fd events ≡ own_events at others
     → replies_to device fd new events ≡ replies_to device at anew others
-alike-told device fd at way settings held theirs one new other anew events others h k w v level o p none never same =
-    cc (opening_told device fd way settings held one new events h w o none, opening_told device at way settings theirs other anew others k v p never)
+alike-told device fd at way settings held theirs one new other anew events others level a b same =
+    cc (opening_told device fd way settings held one new events a, opening_told device at way settings theirs other anew others b)
 
-opening_book : (device : DeviceSeen) (fd : ℕ) (way : Way) (settings : Settings) (held : Held) (old new : Desk) (events : List Event) → HoldApart old → MembersWait device old → Opens device fd way settings held old new → JoinsNone device fd new events → All (λ (event : Event). closes fd event ≡ false) events
+opening_book : (device : DeviceSeen) (fd : ℕ) (way : Way) (settings : Settings) (held : Held) (old new : Desk) (events : List Event) → OpensAlone device fd way settings held old new events → All (λ (event : Event). closes fd event ≡ false) events
     → channel_at device (after_all device new events) held ≡ own_after device old.handed (channel_begun way settings) (own_events fd events)
-opening_book device fd way settings held old new events h w o none goes =
-    let book = book-own device new fd held events (apart_opened device fd way settings held old new h o) o.holds (alone_opened device fd way settings held old new w o) none goes in
+opening_book device fd way settings held old new events a goes =
+    let o = a.opens in
+    let book = book-own device new fd held events (apart_opened device fd way settings held old new a.apart o) o.holds (alone_opened device fd way settings held old new a.waits o) a.joins_none goes in
     cc (book, begun-own device fd way settings held old new o, handed_opened device fd way settings held old new o)
 
 -- and their books are equal, as long as neither is closed
-pub alike-books : (device : DeviceSeen) (fd at : ℕ) (way : Way) (settings : Settings) (held theirs : Held) (one new other anew : Desk) (events others : List Event) → HoldApart one → HoldApart other → MembersWait device one → MembersWait device other → one.handed ≡ other.handed
-    → Opens device fd way settings held one new → Opens device at way settings theirs other anew → JoinsNone device fd new events → JoinsNone device at anew others → All (λ (event : Event). closes fd event ≡ false) events → All (λ (event : Event). closes at event ≡ false) others
-    → own_events fd events ≡ own_events at others
+pub alike-books : (device : DeviceSeen) (fd at : ℕ) (way : Way) (settings : Settings) (held theirs : Held) (one new other anew : Desk) (events others : List Event) → one.handed ≡ other.handed
+    → OpensAlone device fd way settings held one new events → OpensAlone device at way settings theirs other anew others
+    → All (λ (event : Event). closes fd event ≡ false) events → All (λ (event : Event). closes at event ≡ false) others → own_events fd events ≡ own_events at others
     → channel_at device (after_all device new events) held ≡ channel_at device (after_all device anew others) theirs
-alike-books device fd at way settings held theirs one new other anew events others h k w v level o p none never goes still same =
-    cc (opening_book device fd way settings held one new events h w o none goes, opening_book device at way settings theirs other anew others k v p never still)
+alike-books device fd at way settings held theirs one new other anew events others level a b goes still same =
+    cc (opening_book device fd way settings held one new events a goes, opening_book device at way settings theirs other anew others b still)

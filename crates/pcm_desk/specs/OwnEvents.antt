@@ -13,7 +13,7 @@ use Rattle.pcm_desk.specs.Channels.{Channel, own_turn, ungrouped}
 use Rattle.pcm_desk.specs.Desk.{Desk, DeskTurn, after, held_by}
 use Rattle.pcm_desk.specs.declared.turn.Turn.{Turn}
 use Rattle.pcm_desk.specs.Events.{frames_taken}
-use Rattle.pcm_desk.specs.Own.{descriptor_of}
+use Rattle.pcm_desk.specs.Own.{HoldApart, MembersWait, descriptor_of}
 
 -- a descriptor is this one; none is nobody's
 abbrev pub names : ℕ → Option ℕ → Bool
@@ -88,3 +88,10 @@ pub record Opens (device : DeviceSeen) (fd : ℕ) (way : Way) (settings : Settin
   pub shut : held_by old fd ≡ None
   pub is : new ≡ (after device old (Open fd way settings)).desk
   pub holds : held_by new fd ≡ Some held
+
+-- and so at one in order, and no join of it is accepted in the events after that
+pub record OpensAlone (device : DeviceSeen) (fd : ℕ) (way : Way) (settings : Settings) (held : Held) (old new : Desk) (events : List Event) : Type 0 where
+  pub apart : HoldApart old
+  pub waits : MembersWait device old
+  pub opens : Opens device fd way settings held old new
+  pub joins_none : JoinsNone device fd new events

@@ -31,7 +31,7 @@ ghost use Rattle.pcm_desk.specs.declared.device.Held.{Held};
 ghost use Rattle.pcm_desk.specs.Channels.{channel_begun};
 ghost use Rattle.pcm_desk.specs.Desk.{Desk, after, channel_at, desk_at_start, held_by, is_member, mixer_by};
 ghost use Rattle.pcm_desk.specs.Own.{HoldApart, IsIsolated, MembersWait};
-ghost use Rattle.pcm_desk.specs.OwnEvents.{JoinsNone, Opens, closes, own_after, own_events, own_replies, replies_to};
+ghost use Rattle.pcm_desk.specs.OwnEvents.{JoinsNone, Opens, OpensAlone, closes, own_after, own_events, own_replies, replies_to};
 ghost use Rattle.pcm_desk.specs.Events.{after_all};
 
 /// The counts of a book stay in order through every event, for every rate between its client and the mix.
@@ -154,19 +154,13 @@ pub fn openings_stand_alone()
         ≡ own_after device desk.handed (channel_at device desk held) (own_events fd events) }
     // two openings, of one script or of two
     ensures alike { (device : DeviceSeen) (fd at : ℕ) (way : Way) (settings : Settings) (held theirs : Held)
-        (one new other anew : Desk) (events others : List Event)
-        → HoldApart one → HoldApart other → MembersWait device one → MembersWait device other → one.handed ≡ other.handed
-        → Opens device fd way settings held one new → Opens device at way settings theirs other anew
-        → JoinsNone device fd new events → JoinsNone device at anew others
-        → own_events fd events ≡ own_events at others
-        → replies_to device fd new events ≡ replies_to device at anew others }
+        (one new other anew : Desk) (events others : List Event) → one.handed ≡ other.handed
+        → OpensAlone device fd way settings held one new events → OpensAlone device at way settings theirs other anew others
+        → own_events fd events ≡ own_events at others → replies_to device fd new events ≡ replies_to device at anew others }
     ensures books_alike { (device : DeviceSeen) (fd at : ℕ) (way : Way) (settings : Settings) (held theirs : Held)
-        (one new other anew : Desk) (events others : List Event)
-        → HoldApart one → HoldApart other → MembersWait device one → MembersWait device other → one.handed ≡ other.handed
-        → Opens device fd way settings held one new → Opens device at way settings theirs other anew
-        → JoinsNone device fd new events → JoinsNone device at anew others
+        (one new other anew : Desk) (events others : List Event) → one.handed ≡ other.handed
+        → OpensAlone device fd way settings held one new events → OpensAlone device at way settings theirs other anew others
         → All (λ event. closes fd event ≡ false) events → All (λ event. closes at event ≡ false) others
-        → own_events fd events ≡ own_events at others
-        → channel_at device (after_all device new events) held
+        → own_events fd events ≡ own_events at others → channel_at device (after_all device new events) held
         ≡ channel_at device (after_all device anew others) theirs }
 {}

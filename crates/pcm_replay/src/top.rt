@@ -30,9 +30,8 @@ pub fn dsp_main<B: Feeder, F: Files, K: Sink>(
     ensures judged { IsJudged (call F.seen K.seen words files out) result }
     // 0, a run: the device file has exactly its bytes, and exactly the replies were put.
     ensures headline { result ≡ 0 → LeavesRun (call F.seen K.seen words files out) }
-    // Without a shortage it has what is heard of its clients from their starts to their ends,
+    // Without a shortage these are what is heard of its clients, and those of any other run whose clients sound alike.
     ensures plain { result ≡ 0 → LeavesPlain (call F.seen K.seen words files out) }
-    // and the bytes of any other run whose clients sound alike, as far as both go.
     ensures alike { result ≡ 0 → LeavesAlike (call F.seen K.seen words files out) }
     // 0, a check, a soak and a conversion: exactly its file, if it has one, and exactly its line.
     ensures checked { result ≡ 0 → LeavesCheck (call F.seen K.seen words files out) }
