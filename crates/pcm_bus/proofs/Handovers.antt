@@ -43,49 +43,41 @@ frames_of-map f c samples =
     (λ k below. ap (take c) (drop-map f (k * c) samples) ∙ take-map f c (drop (k * c) samples))
     ∙ sym (map-map (map f) (frame_in c samples) (range_with_len 0 n))
 
--- the samples of the mix, brought to 32 bits
-abbrev pub raised : DeviceSeen → List ℤ → List ℤ
-raised device samples = map (at_full (bits_of (mix_settings device).format)) samples
+module _ (device : DeviceSeen) (samples : List ℤ) where
+  -- the samples of the mix, brought to 32 bits
+  abbrev pub raised : List ℤ
+  raised = map (at_full (bits_of (mix_settings device).format)) samples
 
--- their frames
-pub raised-frames : (device : DeviceSeen) (samples : List ℤ)
-    → frames_of (channels_of (mix_settings device).layout) (raised device samples) ≡ raised_frames device samples
-raised-frames device samples =
-    frames_of-map (at_full (bits_of (mix_settings device).format)) (channels_of (mix_settings device).layout) samples
+  -- their frames
+  raised-frames : frames_of (channels_of (mix_settings device).layout) raised ≡ raised_frames device samples
+  raised-frames = frames_of-map (at_full (bits_of (mix_settings device).format)) (channels_of (mix_settings device).layout) samples
 
--- they have 32 bits
-raised-bits : (device : DeviceSeen) (samples : List ℤ) → All (FitsBits (bits_of (mix_settings device).format)) samples
-    → HaveBits 32 (raised_frames device samples)
-raised-bits device samples fits =
-    let format = (mix_settings device).format in
-    let bits = bits_of format in
-    let full : ℤ → ℤ = at_full bits in
-    subst (HaveBits 32) (raised-frames device samples)
-    (frames_of-bits 32 (channels_of (mix_settings device).layout) (raised device samples)
-    (All-map (FitsBits 32) full samples
-    (All-weaker (FitsBits bits) (λ z. FitsBits 32 (full z))
-    (λ z within. FitsBits-mul_pow bits z (bits_of-above format) (bits_of-within format) within) samples fits)))
+  -- they have 32 bits
+  raised-bits : All (FitsBits (bits_of (mix_settings device).format)) samples → HaveBits 32 (raised_frames device samples)
+  raised-bits fits =
+      let bits = bits_of (mix_settings device).format in
+      let full : ℤ → ℤ = at_full bits in
+      subst (HaveBits 32) raised-frames
+          (frames_of-bits 32 (channels_of (mix_settings device).layout) raised (All-map (FitsBits 32) full samples
+      (All-weaker (FitsBits bits) (λ z. FitsBits 32 (full z))
+      (λ z within. FitsBits-mul_pow bits z (bits_of-above (mix_settings device).format)
+      (bits_of-within (mix_settings device).format) within) samples fits)))
 
--- and the channels of the mix
-raised-channels : (device : DeviceSeen) (samples : List ℤ)
-    → HaveChannels (channels_of (mix_settings device).layout) (raised_frames device samples)
-raised-channels device samples =
-    let c = channels_of (mix_settings device).layout in
-    subst (HaveChannels c) (raised-frames device samples) (frames_of-channels c (raised device samples))
+  -- and the channels of the mix
+  raised-channels : HaveChannels (channels_of (mix_settings device).layout) (raised_frames device samples)
+  raised-channels = subst (HaveChannels (channels_of (mix_settings device).layout)) raised-frames
+      (frames_of-channels (channels_of (mix_settings device).layout) raised)
 
--- they are the frames that are mixed for n of the device
-mixed-frames : (device : DeviceSeen) (samples : List ℤ) (handed n : ℕ) → AreMixedFor device samples handed n
-    → length (frames_of (channels_of (mix_settings device).layout) samples) ≡ mixed_by device handed n
-mixed-frames device samples handed n mixed =
-    let c = channels_of (mix_settings device).layout in
-    count-frames c (mixed_by device handed n) samples (channels_of-above (mix_settings device).layout) mixed
+  -- they are the frames that are mixed for n of the device
+  mixed-frames : (handed n : ℕ) → AreMixedFor device samples handed n → length (frames_of (channels_of (mix_settings device).layout) samples) ≡ mixed_by device handed n
+  mixed-frames handed n mixed =
+      count-frames (channels_of (mix_settings device).layout) (mixed_by device handed n) samples
+      (channels_of-above (mix_settings device).layout) mixed
 
-raised-count : (device : DeviceSeen) (samples : List ℤ) (handed n : ℕ) → AreMixedFor device samples handed n
-    → length (raised_frames device samples) ≡ mixed_by device handed n
-raised-count device samples handed n mixed =
-    let from = mix_settings device in
-    length-map (frames_of (channels_of from.layout) samples) (map (at_full (bits_of from.format)))
-    ∙ mixed-frames device samples handed n mixed
+  raised-count : (handed n : ℕ) → AreMixedFor device samples handed n → length (raised_frames device samples) ≡ mixed_by device handed n
+  raised-count handed n mixed =
+      length-map (frames_of (channels_of (mix_settings device).layout) samples) (map (at_full (bits_of (mix_settings device).format)))
+      ∙ mixed-frames handed n mixed
 
 -- ---- what a chain has made
 
@@ -106,15 +98,12 @@ made-more : {B : Type 0} (kept : B → Kept) (device : DeviceSeen) (old new : Ch
     → GivesExactly kept (device_filters device) new (x ++ raised_frames device samples) (handed + n)
     → HasMade kept device new (x ++ raised_frames device samples) (handed + n)
 made-more kept device old new samples n x handed is fits made mixed exactly =
-    let c = channels_of (mix_settings device).layout in
     let more = raised_frames device samples in
-    let P : Frame → Type 0 = λ frame. All (FitsBits 32) frame in
-    let Q : Frame → Type 0 = λ frame. length frame ≡ c in
-    let count = raised-count device samples handed n mixed in
     record {
-      bits = All-append P x more made.bits (raised-bits device samples fits);
-      channels = All-append Q x more made.channels (raised-channels device samples);
-      count = omega (arith, length-append x more, made.count, count, mixed-behind device handed n is);
+      bits = All-append (λ (frame : Frame). All (FitsBits 32) frame) x more made.bits (raised-bits device samples fits);
+      channels = All-append (λ (frame : Frame). length frame ≡ channels_of (mix_settings device).layout) x more made.channels
+          (raised-channels device samples);
+      count = omega (arith, length-append x more, made.count, raised-count device samples handed n mixed, mixed-behind device handed n is);
       exactly = exactly;
     }
 

@@ -87,6 +87,8 @@ abbrev pub whole_block : {B : Type 0} → DeviceSeen → ℕ → Levels → List
 whole_block device n mixer channels maps sources = faded (mix_settings device).layout (master_gain mixer) (whole_sum device n mixer channels maps sources)
 
 -- a block of theirs
-abbrev pub MixesBlock : {B : Type 0} → (B → Kept) → Filters → Device → ℕ → Levels → Fixed (PlayChannelOf B) → Fixed (MapChannelOf B) → List ℤ → Type 0
-MixesBlock kept filters device n mixer channels maps block = (sources : Sources) → AllStand kept filters (fixed_items channels) (fixed_items maps) sources
+abbrev pub MixesBlock : {B : Type 0} → (B → Kept) → Filters → Device → ℕ → Levels → Fixed (PlayChannelOf B) → Fixed (MapChannelOf B)
+    → List ℤ → Type 0
+MixesBlock kept filters device n mixer channels maps block = (sources : Sources)
+    → AllStand kept filters (fixed_items channels) (fixed_items maps) sources
     → block ≡ whole_block (seen filters device) n mixer (fixed_items channels) (fixed_items maps) sources

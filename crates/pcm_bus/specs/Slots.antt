@@ -94,7 +94,8 @@ pub record MapMixes {B : Type 0} (kind : B → Kind) (kept : B → Kept) (filter
 
 -- each channel of a device is ready for an interrupt that mixes `frames` frames after `mixed`, the channels are few enough for their
 -- slots, and the frames for a count
-pub record AreDue {B : Type 0} (kind : B → Kind) (kept : B → Kept) (filters : Filters) (device : Device) (mixed frames : ℕ) (channels : Fixed (PlayChannelOf B)) (maps : Fixed (MapChannelOf B)) : Type 0 where
+pub record AreMixDue {B : Type 0} (kind : B → Kind) (kept : B → Kept) (filters : Filters) (device : Device) (mixed frames : ℕ)
+    (channels : Fixed (PlayChannelOf B)) (maps : Fixed (MapChannelOf B)) : Type 0 where
   pub count : mixed + frames < 2 ^ 64
   pub few : fixed_len channels + fixed_len maps ≤ SLOTS
   pub playing : All (IsPlayDue kind kept filters device frames) (fixed_items channels)

@@ -8,17 +8,15 @@ ghost use Rattle.pcm_format.specs.Frames.{frame_bytes};
 ghost use Rattle.pcm_format.specs.Layouts.{channels_of};
 ghost use Rattle.pcm_feeder.specs.Racks.{IsRack};
 ghost use Rattle.pcm_chain.specs.Chains.{HasRack};
-ghost use Rattle.pcm_oss.specs.declared.event.TheConstants.{SLOTS};
 ghost use Rattle.pcm_desk.specs.declared.limits.TheConstants.{MIX_FRAMES, RING_FRAMES};
 ghost use Rattle.pcm_desk.specs.Channels.{mixed_by};
 ghost use Rattle.pcm_desk.specs.Device.{mix_frames, seen, unfiltered, HasRates};
-ghost use Rattle.pcm_bus.specs.Blocks.{MixesBlock};
 ghost use Rattle.pcm_bus.specs.Buses.{BusStands, HandsOn, IsRingOf, TurnsBus};
 ghost use Rattle.pcm_bus.specs.Handovers.{CanMake, HasMade, IsPlannedBy};
-ghost use Rattle.pcm_bus.specs.Slots.{AreDue, AreLeft, MapMixes, PlayMixes};
+ghost use Rattle.pcm_bus.specs.Slots.{AreMixDue, AreLeft, MapMixes, PlayMixes};
 
 use crate::handover::hand_over;
-use crate::mix::{mix_block, turn_ring};
+use crate::mix::{mix_front, turn_ring};
 use pcm_chain::ChainOf;
 use pcm_desk::{Device, Here};
 use pcm_feeder::{Feeder, RackOf, Tables};
@@ -97,7 +95,7 @@ impl<B: Feeder> BusOf<B> {
     ) -> usize
         requires within { n ≤ self.old.device.ring_frames }
         requires handed { handed + n < 2 ^ 64 }
-        requires due { AreDue B.kind B.kept tables.now self.old.device here.mixed
+        requires due { AreMixDue B.kind B.kept tables.now self.old.device here.mixed
             (mixed_by (seen tables.now self.old.device) handed n) channels.old maps.old }
         requires stands { BusStands B.kept (seen tables.now self.old.device) self.old.chain handed }
         requires ring { IsRingOf self.old.device ring.old }
@@ -163,41 +161,6 @@ impl<B: Feeder> BusOf<B> {
     {
         count * self.device.mix.layout.channels()
     }
-}
-
-// Mixes a block of `n` frames into the front of a buffer: so many samples. `part` is scratch.
-fn mix_front<B: Feeder>(
-    device: Device,
-    tables: &Tables,
-    channels: &mut Fixed<PlayChannelOf<B>>,
-    maps: &mut Fixed<MapChannelOf<B>>,
-    mixer: &MixDev,
-    here: Here,
-    n: usize,
-    samples: usize,
-    part: &mut [i32],
-    sum: &mut [i32],
-)
-    requires due { AreDue B.kind B.kept tables.now device here.mixed n channels.old maps.old }
-    requires samples { samples ≡ n * channels_of device.mix.layout }
-    requires part { samples ≤ length part.old }
-    requires sum { samples ≤ length sum.old }
-    ensures mixed { AreLeft (PlayMixes B.kind B.kept tables.now device here.mixed n) channels.old channels.new }
-    ensures taken { AreLeft (MapMixes B.kind B.kept tables.now device here.mixed n) maps.old maps.new }
-    ensures block { MixesBlock B.kept tables.now device n mixer.now channels.old maps.old (take samples sum.new) }
-    ensures fits { All (FitsBits (bits_of device.mix.format)) (take samples sum.new) }
-{
-    mix_block(
-        device,
-        tables,
-        channels,
-        maps,
-        mixer,
-        here,
-        n,
-        &mut part[..samples],
-        &mut sum[..samples],
-    );
 }
 
 // Hands over what the device gets for so many mixed samples at the front of a buffer, `n` of its frames, and turns its ring by these.

@@ -1,6 +1,6 @@
 //! One block of the mix, from all channels in the order of their slots, and the ring that takes what comes of it.
 
-ghost use Rattle.std.specs.Prelude.{◌≡◌, [], ◌+◌, ◌*◌, ◌^◌, ◌<◌, ◌≤◌, length, take, All, IfOk};
+ghost use Rattle.std.specs.Prelude.{◌≡◌, ◌+◌, ◌*◌, ◌^◌, ◌<◌, ◌≤◌, length, take, All, IfOk};
 ghost use Rattle.pcm_sequence.specs.Fixed.{fixed_items, fixed_len};
 ghost use Rattle.pcm_num.specs.Limit.{FitsBits};
 ghost use Rattle.pcm_format.specs.Formats.{bits_of};
@@ -10,7 +10,7 @@ ghost use Rattle.pcm_desk.specs.declared.limits.TheConstants.{RING_FRAMES};
 ghost use Rattle.pcm_oss.specs.declared.event.TheConstants.{SLOTS};
 ghost use Rattle.pcm_desk.specs.Device.{unfiltered};
 ghost use Rattle.pcm_path.specs.Paths.{HoldBlock};
-ghost use Rattle.pcm_bus.specs.Slots.{AreDue, AreLeft, MapMixes, PlayMixes};
+ghost use Rattle.pcm_bus.specs.Slots.{AreMixDue, AreLeft, MapMixes, PlayMixes};
 ghost use Rattle.pcm_bus.specs.Blocks.{map_gains, silent_ring, turned_ring, Added, MixesBlock};
 
 use pcm_desk::{Device, Here};
@@ -140,9 +140,9 @@ fn mix_each<B: Feeder, C: Mixed<B>>(
     }
 }
 
-/// Mixes a block of `n` frames from silence on, after what was mixed before: first of the channels that play, then of the mapped ones, each
-/// at the gain of its slot. All of it, once limited, gets the gain of what is mixed. `part` holds the frames of one channel meanwhile.
-pub fn mix_block<B: Feeder>(
+// Mixes a block of `n` frames from silence on, after what was mixed before: first of the channels that play, then of the mapped ones, each
+// at the gain of its slot. All of it, once limited, gets the gain of what is mixed. `part` holds the frames of one channel meanwhile.
+fn mix_block<B: Feeder>(
     device: Device,
     tables: &Tables,
     channels: &mut Fixed<PlayChannelOf<B>>,
@@ -153,7 +153,7 @@ pub fn mix_block<B: Feeder>(
     part: &mut [i32],
     sum: &mut [i32],
 )
-    requires due { AreDue B.kind B.kept tables.now device here.mixed n channels.old maps.old }
+    requires due { AreMixDue B.kind B.kept tables.now device here.mixed n channels.old maps.old }
     requires part { length part.old ≡ n * channels_of device.mix.layout }
     requires sum { length sum.old ≡ n * channels_of device.mix.layout }
     ensures mixed { AreLeft (PlayMixes B.kind B.kept tables.now device here.mixed n) channels.old channels.new }
@@ -168,6 +168,33 @@ pub fn mix_block<B: Feeder>(
         mix_each(device, tables, maps, mixer, slots, here, n, part, sum);
         apply_gain(mixer.master(), device.mix.layout, sum);
     }
+}
+
+/// Mixes a block of `n` frames into the front of a buffer: so many samples. `part` is scratch.
+pub fn mix_front<B: Feeder>(
+    device: Device,
+    tables: &Tables,
+    channels: &mut Fixed<PlayChannelOf<B>>,
+    maps: &mut Fixed<MapChannelOf<B>>,
+    mixer: &MixDev,
+    here: Here,
+    n: usize,
+    samples: usize,
+    part: &mut [i32],
+    sum: &mut [i32],
+)
+    requires due { AreMixDue B.kind B.kept tables.now device here.mixed n channels.old maps.old }
+    requires samples { samples ≡ n * channels_of device.mix.layout }
+    requires part { samples ≤ length part.old }
+    requires sum { samples ≤ length sum.old }
+    ensures mixed { AreLeft (PlayMixes B.kind B.kept tables.now device here.mixed n) channels.old channels.new }
+    ensures taken { AreLeft (MapMixes B.kind B.kept tables.now device here.mixed n) maps.old maps.new }
+    ensures block { MixesBlock B.kept tables.now device n mixer.now channels.old maps.old (take samples sum.new) }
+    ensures fits { All (FitsBits (bits_of device.mix.format)) (take samples sum.new) }
+{
+    let part = &mut part[..samples];
+    let sum = &mut sum[..samples];
+    mix_block(device, tables, channels, maps, mixer, here, n, part, sum);
 }
 
 /// Hands over the oldest frames of a full ring, as many as `out` holds, and puts a block of as many after the rest. The bytes are
