@@ -18,7 +18,7 @@ use Rattle.pcm_desk.specs.Openings.{ring_bytes}
 use Rattle.pcm_desk.specs.Channels.{map_rate_at}
 use Rattle.pcm_desk.specs.Desk.{map_unopened}
 use Rattle.pcm_sound.specs.Added.{map_turned}
-use Rattle.pcm_sound.specs.Areas.{is_recut, silent_area}
+use Rattle.pcm_sound.specs.Areas.{is_recut, silences, silent_area}
 use Rattle.pcm_sound.specs.MapRuns.{area_taken}
 use Rattle.pcm_path.specs.Paths.{HasBoxes, IsPlanned}
 use Rattle.pcm_map.specs.declared.channel.MapChannelOf.{MapChannelOf}
@@ -89,3 +89,16 @@ pub record MapMoves {B : Type 0} (kind : B → Kind) (kept : B → Kept) (filter
 -- an interrupt that mixes n frames takes what stands in the area
 abbrev pub MapTakes : {B : Type 0} → (B → Kind) → (B → Kept) → Filters → ℕ → MapChannelOf B → MapChannelOf B → Type 0
 MapTakes kind kept filters n old new = MapMoves kind kept filters (area_taken (seen filters old.path.device) n old.book (area_of old)) n old new
+
+-- What a call leaves of a channel, which writes so into its area: it takes nothing, and the area is silent again where another opening
+-- begins, or its format, its channels or its fragments are others.
+pub record MapKeeps {B : Type 0} (kind : B → Kind) (kept : B → Kept) (filters : Filters) (writes : List ℕ → List ℕ)
+    (old new : MapChannelOf B) : Type 0 where
+  pub moves : MapMoves kind kept filters [] 0 old new
+  pub area : area_of new ≡ (if silences old.book new.book then silent_area new.book.opening else writes (area_of old))
+
+-- what a channel needs so that it can be asked something
+pub record MayAskMap {B : Type 0} (kind : B → Kind) (filters : Filters) (channel : MapChannelOf B) : Type 0 where
+  pub kinds : HasBoxes kind channel.path
+  pub planned : IsMapServed filters channel
+  pub count : taken_of channel.book < 2 ^ 64

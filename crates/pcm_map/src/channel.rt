@@ -1,6 +1,6 @@
 //! A mapped channel: its book, its area, and the path by whose ring and chain the device takes what stands there.
 
-ghost use Rattle.std.specs.Prelude.{◌≡◌, ◌+◌, ◌*◌, ◌^◌, ◌<◌, ◌≤◌, [], length, IfOk, OnErr, All, IsTrue};
+ghost use Rattle.std.specs.Prelude.{◌≡◌, ◌+◌, ◌*◌, ◌<◌, ◌≤◌, [], length, IfOk, OnErr, All, IsTrue};
 ghost use Rattle.pcm_sequence.specs.Fixed.{fixed_len};
 ghost use Rattle.pcm_format.specs.Formats.{bits_of};
 ghost use Rattle.pcm_format.specs.Layouts.{channels_of};
@@ -13,15 +13,15 @@ ghost use Rattle.pcm_rate.specs.Rates.{IsRatio};
 ghost use Rattle.pcm_ring.specs.Ring.{empty_ring};
 ghost use Rattle.pcm_desk.specs.Device.{HasRates, seen};
 ghost use Rattle.pcm_desk.specs.RunStates.{is_unheld, is_running, is_in_setup};
-ghost use Rattle.pcm_desk.specs.MapBooks.{map_begun, map_closed, poke_turn, taken_of};
+ghost use Rattle.pcm_desk.specs.MapBooks.{map_begun, map_closed, poke_turn};
 ghost use Rattle.pcm_desk.specs.MapRequests.{map_ask};
 ghost use Rattle.pcm_desk.specs.MapSafe.{MapIsSafe};
 ghost use Rattle.pcm_desk.specs.Channels.{map_mixing};
 ghost use Rattle.pcm_desk.proofs.Props.{map_props};
 ghost use Rattle.pcm_chain.specs.Chains.{marks_in, HasRack};
-ghost use Rattle.pcm_path.specs.Paths.{path_rate, CanBegin, HasBoxes, HoldBlock, IsEmpty, IsPlanned};
+ghost use Rattle.pcm_path.specs.Paths.{path_rate, CanBegin, ChannelMoves, HasBoxes, HoldBlock, IsEmpty, IsPlanned};
 ghost use Rattle.std.proofs.Props.{props};
-ghost use Rattle.pcm_sound.specs.Areas.{poked, silent_area};
+ghost use Rattle.pcm_sound.specs.Areas.{poked};
 
 use crate::area::{put_round, recut, silence};
 use pcm_desk::{Device, MapBook, Opening, RunState};
@@ -29,9 +29,9 @@ use pcm_feeder::{Feeder, Gain, RackOf, Tables, apply_gain};
 use pcm_format::Settings;
 use pcm_mix::mix_into;
 use pcm_oss::{Answer, Errno, RING_BYTES, Request, Way, gain_of};
-use pcm_path::PathOf;
+use pcm_path::{Channel, Made, PathOf};
 use pcm_sequence::Fixed;
-use std::alloc::{AllocError, Global};
+use std::alloc::Global;
 
 /// How many frames a piece of a refill has at most.
 const PIECE_FRAMES: usize = 64;
@@ -56,30 +56,7 @@ impl<B: Feeder> MapChannelOf<B> {
     ghost use Rattle.pcm_feeder.specs.Filters.{Filters};
     ghost use Rattle.pcm_map.specs.declared.channel.TheConstants.{PIECE_FRAMES};
     ghost use Rattle.pcm_map.specs.Pieces.{MapGives};
-    ghost use Rattle.pcm_map.specs.Channels.{area_of, CountsFit, IsMapReady, IsMapServed, IsMapUnopened, MapAddsTo, MapMoves, MapTakes, RecutsArea};
-
-    /// A channel of a device that nobody has opened. All its memory is taken here.
-    pub fn new(
-        alloc: Global,
-        device: Device,
-        tables: &Tables,
-        rack: RackOf<B>,
-    ) -> Result<MapChannelOf<B>, AllocError>
-        requires device { HasRates device }
-        requires kinds { IsRack B.kind rack }
-        ensures unopened { IfOk result (IsMapUnopened B.kind B.kept tables.now device) }
-        ensures boxes { IfOk result (λ made. HasRack B.mark rack made.path.chain) }
-    {
-        let mut path = PathOf::new(alloc, device, rack)?;
-        let mut area = Fixed::new(vec![in alloc; 0u8; RING_BYTES as usize]?);
-        let book = MapBook {
-            state: RunState::Free,
-            ..MapBook::begun(device.mix)
-        };
-        begin_run(&mut path, tables, &book.opening);
-        silence(&mut area, &book.opening);
-        Ok(MapChannelOf { book, path, area })
-    }
+    ghost use Rattle.pcm_map.specs.Channels.{area_of, CountsFit, IsMapReady, MapAddsTo, MapMoves, MapTakes, MayAskMap, RecutsArea};
 
     /// Whether the channel is open, and hasn't started.
     pub fn is_at_rest(&self) -> bool
@@ -93,20 +70,6 @@ impl<B: Feeder> MapChannelOf<B> {
         ensures { result ≡ is_unheld self.now.book.state }
     {
         self.book.is_free()
-    }
-
-    /// A new opening begins, whose area is silent, and whose sound goes through the plan of its settings.
-    pub fn begin(&mut self, tables: &Tables, settings: Settings)
-        requires rate { IsRate settings.rate }
-        requires kinds { HasBoxes B.kind self.old.path }
-        ensures book { self.new.book ≡ map_begun settings }
-        ensures device { self.new.path.device ≡ self.old.path.device }
-        ensures area { area_of self.new ≡ silent_area self.new.book.opening }
-        ensures moves { MapMoves B.kind B.kept tables.now [] 0 self.old self.new }
-    {
-        self.book = MapBook::begun(settings);
-        begin_run(&mut self.path, tables, &self.book.opening);
-        silence(&mut self.area, &self.book.opening);
     }
 
     /// Writes `bytes` into the area from its byte `offset` on, if they fit.
@@ -128,9 +91,7 @@ impl<B: Feeder> MapChannelOf<B> {
     /// Does what a request asks. Where it hasn't started, the chain begins again, and another format, other channels or other fragments
     /// make the area silent.
     pub fn ioctl(&mut self, tables: &Tables, request: Request) -> Result<Answer, Errno>
-        requires kinds { HasBoxes B.kind self.old.path }
-        requires planned { IsMapServed tables.now self.old }
-        requires count { taken_of self.old.book < 2 ^ 64 }
+        requires { MayAskMap B.kind tables.now self.old }
         ensures book { self.new.book ≡ (map_ask request self.old.book).book }
         ensures reply { result ≡ (map_ask request self.old.book).reply }
         ensures device { self.new.path.device ≡ self.old.path.device }
@@ -230,6 +191,47 @@ impl<B: Feeder> MapChannelOf<B> {
         put_round(ring, area, self.book.taken(), count);
         chain.pull(tables, gain, ring, settings.format, false, n, frames);
         self.book = book;
+    }
+}
+
+impl<B: Feeder> Channel<B> for MapChannelOf<B> {
+    ghost use Rattle.pcm_map.specs.Channels.{IsMapUnopened, MapKeeps};
+
+    ghost path = { λ channel. channel.path };
+
+    ghost is_free = { λ channel. is_unheld channel.book.state };
+
+    ghost is_unopened = { IsMapUnopened B.kind B.kept };
+
+    ghost begins = { λ filters settings.
+        ChannelMoves (λ channel. channel.path) (λ channel. channel.book) (map_begun settings) (MapKeeps B.kind B.kept filters (λ area. area)) };
+
+    fn new(alloc: Global, device: Device, tables: &Tables, rack: RackOf<B>) -> Made<Self>
+        requires device { HasRates device }
+        requires kinds { IsRack B.kind rack }
+        ensures unopened { IfOk result (IsMapUnopened B.kind B.kept tables.now device) }
+        ensures boxes { IfOk result (λ made. HasRack B.mark rack made.path.chain) }
+    {
+        let mut path = PathOf::new(alloc, device, rack)?;
+        let mut area = Fixed::new(vec![in alloc; 0u8; RING_BYTES as usize]?);
+        let book = MapBook {
+            state: RunState::Free,
+            ..MapBook::begun(device.mix)
+        };
+        begin_run(&mut path, tables, &book.opening);
+        silence(&mut area, &book.opening);
+        Ok(MapChannelOf { book, path, area })
+    }
+
+    fn is_free(&self) -> bool {
+        self.is_free()
+    }
+
+    // The area of the opening is silent.
+    fn begin(&mut self, tables: &Tables, settings: Settings) {
+        self.book = MapBook::begun(settings);
+        begin_run(&mut self.path, tables, &self.book.opening);
+        silence(&mut self.area, &self.book.opening);
     }
 }
 

@@ -1,5 +1,5 @@
 -- The path of a channel: what it serves, by which plan, and when nothing is in it.
-use Rattle.std.specs.Prelude.{◌≡◌, ℕ, ◌*◌, ℤ, List, [], length, All}
+use Rattle.std.specs.Prelude.{◌≡◌, ℕ, ◌*◌, ℤ, List, [], length, All, OnErr, Result}
 use Rattle.pcm_num.specs.Limit.{FitsBits}
 use Rattle.pcm_format.specs.declared.settings.Settings.{Settings}
 use Rattle.pcm_format.specs.Formats.{bits_of}
@@ -66,3 +66,26 @@ pub record HoldBlock (device : Device) (n : ℕ) (frames sum : List ℤ) : Type 
   pub frames_whole : length frames ≡ n * channels_of device.mix.layout
   pub sum_whole : length sum ≡ n * channels_of device.mix.layout
   pub fits : All (FitsBits (bits_of device.mix.format)) sum
+
+-- what a call leaves of a channel of whichever way: it is of the device as before, its book is this one, and what it stood for is kept so
+pub record ChannelMoves {B C Book : Type 0} (path : C → PathOf B) (book_of : C → Book) (left : Book) (keeps : C → C → Type 0)
+    (old new : C) : Type 0 where
+  pub device_same : (path new).device ≡ (path old).device
+  pub book : book_of new ≡ left
+  pub moves : keeps old new
+
+-- what a call leaves of a channel by which its book changes so, whichever way it is: the device stays, and what it stood for is kept so
+pub record LeavesOf {B C : Type 0} (path : C → PathOf B) (books keeps : C → C → Type 0) (old new : C) : Type 0 where
+  pub book : books old new
+  pub device : (path new).device ≡ (path old).device
+  pub moves : keeps old new
+
+-- what a call that may be refused leaves of it, by the book and the answer that its turn has
+pub record TurnsOf {B C Book Answer Fault : Type 0} (path : C → PathOf B) (book_of : C → Book) (turned : Book)
+    (told : Result Answer Fault) (keeps : C → C → Type 0)
+    (result : Result Answer Fault) (old new : C) : Type 0 where
+  pub book : book_of new ≡ turned
+  pub reply : result ≡ told
+  pub device : (path new).device ≡ (path old).device
+  pub refused : OnErr result (new ≡ old)
+  pub moves : keeps old new

@@ -3,5 +3,7 @@
 #![tactic(auto)]
 
 mod path;
+mod slots;
 
 pub use path::PathOf;
+pub use slots::{Channel, Made};

@@ -1,5 +1,5 @@
 -- A channel that plays: what it stands for, and what an event changes of it.
-use Rattle.std.specs.Prelude.{◌≡◌, ℕ, ◌+◌, ◌*◌, ◌^◌, ◌<◌, ◌≤◌, true, false, ℤ, List, [], ◌++◌, length, take, drop}
+use Rattle.std.specs.Prelude.{◌≡◌, ℕ, ◌+◌, ◌*◌, ◌^◌, ◌<◌, ◌≤◌, true, false, ℤ, List, [], ◌++◌, length, take, drop, Result}
 use Rattle.pcm_format.specs.Frames.{frame_bytes, frames}
 use Rattle.pcm_feeder.specs.declared.kind.Kind.{Kind}
 use Rattle.pcm_feeder.specs.declared.stage.Gain.{Gain}
@@ -17,7 +17,11 @@ use Rattle.pcm_desk.specs.Desk.{play_unopened}
 use Rattle.pcm_sound.specs.Added.{turned}
 use Rattle.pcm_oss.specs.declared.fragments.TheConstants.{RING_BYTES}
 use Rattle.pcm_oss.specs.declared.event.Way.TheVariants.{Play}
-use Rattle.pcm_path.specs.Paths.{HasBoxes, IsPlanned}
+use Rattle.pcm_oss.specs.declared.reply.Answer.{Answer}
+use Rattle.pcm_oss.specs.declared.reply.Errno.{Errno}
+use Rattle.pcm_desk.specs.declared.turn.Turn.{Turn}
+use Rattle.pcm_desk.specs.Here.{IsHere}
+use Rattle.pcm_path.specs.Paths.{HasBoxes, IsPlanned, LeavesOf, TurnsOf}
 use Rattle.pcm_play.specs.declared.channel.PlayChannelOf.{PlayChannelOf}
 
 -- the bytes of a run that were accepted and not yet eaten
@@ -95,3 +99,21 @@ pub record PlayMoves {B : Type 0} (kind : B → Kind) (kept : B → Kept) (filte
   -- no more than a ring has room for
   pub grown : new.book.done + new.book.written ≤ old.book.done + old.book.written + RING_BYTES
   pub given : new.book.given ≤ old.book.given + frames
+
+-- what a channel needs so that it can be asked something, where the mix and the device are
+pub record MayAskPlay {B : Type 0} (kind : B → Kind) (filters : Filters) (place : Here) (channel : PlayChannelOf B) : Type 0 where
+  pub kinds : HasBoxes kind channel.path
+  pub planned : IsPlayServed filters channel
+  pub here : IsHere place
+  pub at : IsPlayHere filters place channel
+  pub count : channel.book.done + channel.book.written < 2 ^ 64
+
+-- what a call leaves of a channel by the turn of its book, and what one by which its book changes so
+abbrev pub PlayTurns : {B : Type 0} → Turn PlayBook → (PlayChannelOf B → PlayChannelOf B → Type 0) → Result Answer Errno → PlayChannelOf B
+    → PlayChannelOf B → Type 0
+PlayTurns turn = TurnsOf (λ channel. channel.path) (λ channel. channel.book) turn.book turn.reply
+
+abbrev pub PlayLeaves : {B : Type 0} → (B → Kind) → (B → Kept) → (PlayChannelOf B → PlayChannelOf B → Type 0) → PlayChannelOf B
+    → PlayChannelOf B → Type 0
+PlayLeaves kind kept books =
+    LeavesOf (λ channel. channel.path) books (λ old new. (filters : Filters) → PlayMoves kind kept filters [] 0 old new)

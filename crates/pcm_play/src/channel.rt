@@ -1,28 +1,27 @@
 //! A channel that plays: its book, and the path with the bytes that wait and the chain that they go through.
 
-ghost use Rattle.std.specs.Prelude.{◌≡◌, ◌+◌, ◌*◌, ◌^◌, ◌<◌, ◌≤◌, [], length, IfOk, OnErr, All};
+ghost use Rattle.std.specs.Prelude.{◌≡◌, ◌+◌, ◌*◌, ◌^◌, ◌<◌, ◌≤◌, [], length, IfOk, All};
 ghost use Rattle.pcm_format.specs.Formats.{bits_of};
 ghost use Rattle.pcm_format.specs.Frames.{frame_bytes};
 ghost use Rattle.pcm_num.specs.Limit.{FitsBits};
-ghost use Rattle.pcm_feeder.specs.Limits.{IsGain, IsRate};
+ghost use Rattle.pcm_feeder.specs.Limits.{IsGain};
 ghost use Rattle.pcm_feeder.specs.Racks.{IsRack};
 ghost use Rattle.pcm_chain.specs.Chains.{HasRack};
 ghost use Rattle.pcm_desk.specs.Device.{HasRates, seen};
 ghost use Rattle.pcm_desk.specs.PlayBooks.{is_play_free, is_play_setup, play_begun, play_fill_of, play_is_ready, write_turn};
 ghost use Rattle.pcm_desk.specs.PlaySafe.{PlayIsSafe};
 ghost use Rattle.pcm_desk.proofs.Props.{book_props};
-ghost use Rattle.pcm_path.specs.Paths.{path_rate, HasBoxes, HoldBlock, Serves};
+ghost use Rattle.pcm_path.specs.Paths.{path_rate, ChannelMoves, HoldBlock, Serves};
 ghost use Rattle.std.proofs.Props.{props};
 ghost use Rattle.pcm_desk.specs.Channels.{asking, mixing};
-ghost use Rattle.pcm_desk.specs.Here.{IsHere};
 
 use pcm_desk::{Device, Here, PlayBook, PlayState};
 use pcm_feeder::{Feeder, Gain, RackOf, Tables, apply_gain};
 use pcm_format::Settings;
 use pcm_mix::mix_into;
 use pcm_oss::{Answer, Errno, Request, Way, gain_of};
-use pcm_path::PathOf;
-use std::alloc::{AllocError, Global};
+use pcm_path::{Channel, Made, PathOf};
+use std::alloc::Global;
 
 /// A channel of the device that plays.
 #[derive(Drop)]
@@ -37,28 +36,7 @@ pub struct PlayChannelOf<B> {
 
 impl<B: Feeder> PlayChannelOf<B> {
     ghost use Rattle.pcm_feeder.specs.Filters.{Filters};
-    ghost use Rattle.pcm_play.specs.Channels.{AddsTo, ClosesBook, IsPlayHere, IsPlayReady, IsPlayServed, IsPlayUnopened, MayEndRun, PlayMoves, SettlesBook};
-
-    /// A channel of a device that nobody has opened.
-    pub fn new(
-        alloc: Global,
-        device: Device,
-        tables: &Tables,
-        rack: RackOf<B>,
-    ) -> Result<PlayChannelOf<B>, AllocError>
-        requires device { HasRates device }
-        requires kinds { IsRack B.kind rack }
-        ensures unopened { IfOk result (IsPlayUnopened B.kind B.kept tables.now device) }
-        ensures boxes { IfOk result (λ made. HasRack B.mark rack made.path.chain) }
-    {
-        let mut path = PathOf::new(alloc, device, rack)?;
-        let book = PlayBook {
-            state: PlayState::Free,
-            ..PlayBook::begun(device.mix)
-        };
-        path.begin(Way::Play, tables, &book.opening);
-        Ok(PlayChannelOf { book, path })
-    }
+    ghost use Rattle.pcm_play.specs.Channels.{AddsTo, ClosesBook, IsPlayReady, MayAskPlay, MayEndRun, PlayLeaves, PlayMoves, PlayTurns, SettlesBook};
 
     /// Whether nobody has the channel, and nothing of it is left to play.
     pub fn is_free(&self) -> bool
@@ -81,26 +59,11 @@ impl<B: Feeder> PlayChannelOf<B> {
         self.book.is_ready()
     }
 
-    /// A new opening begins, whose sound goes through the plan of its settings.
-    pub fn begin(&mut self, tables: &Tables, settings: Settings)
-        requires rate { IsRate settings.rate }
-        requires kinds { HasBoxes B.kind self.old.path }
-        ensures book { self.new.book ≡ play_begun settings }
-        ensures device { self.new.path.device ≡ self.old.path.device }
-        ensures moves { PlayMoves B.kind B.kept tables.now [] 0 self.old self.new }
-    {
-        self.book = PlayBook::begun(settings);
-        self.path.begin(Way::Play, tables, &self.book.opening);
-    }
-
     /// Takes the front of `bytes`, as much as fits. A run that starts by it starts where the mix is.
     pub fn write(&mut self, bytes: &[u8], here: Here) -> Result<Answer, Errno>
         requires count { self.old.book.written + length bytes.now < 2 ^ 64 }
-        ensures book { self.new.book ≡ (write_turn here (length bytes.now) self.old.book).book }
-        ensures reply { result ≡ (write_turn here (length bytes.now) self.old.book).reply }
-        ensures device { self.new.path.device ≡ self.old.path.device }
-        ensures refused { OnErr result (self.new ≡ self.old) }
-        ensures moves { (filters : Filters) → PlayMoves B.kind B.kept filters bytes.now 0 self.old self.new }
+        ensures { PlayTurns (write_turn here (length bytes.now) self.old.book)
+            (λ old new. (filters : Filters) → PlayMoves B.kind B.kept filters bytes.now 0 old new) result self.old self.new }
     {
         let turn = self.book.write(here, bytes.len() as u64);
         let answer = turn.reply?;
@@ -113,18 +76,9 @@ impl<B: Feeder> PlayChannelOf<B> {
     /// Does what a request asks, where the mix and the device are. Where nothing of a run is left, the ring and the chain begin again, as
     /// the book says.
     pub fn ioctl(&mut self, tables: &Tables, request: Request, here: Here) -> Result<Answer, Errno>
-        requires kinds { HasBoxes B.kind self.old.path }
-        requires planned { IsPlayServed tables.now self.old }
-        requires here { IsHere here }
-        requires at { IsPlayHere tables.now here self.old }
-        requires count { self.old.book.done + self.old.book.written < 2 ^ 64 }
-        ensures book { self.new.book
-            ≡ (asking (seen tables.now self.old.path.device) here request self.old.book).book }
-        ensures reply { result
-            ≡ (asking (seen tables.now self.old.path.device) here request self.old.book).reply }
-        ensures device { self.new.path.device ≡ self.old.path.device }
-        ensures refused { OnErr result (self.new ≡ self.old) }
-        ensures moves { PlayMoves B.kind B.kept tables.now [] 0 self.old self.new }
+        requires { MayAskPlay B.kind tables.now here self.old }
+        ensures { PlayTurns (asking (seen tables.now self.old.path.device) here request self.old.book)
+            (PlayMoves B.kind B.kept tables.now [] 0) result self.old self.new }
     {
         let rate = self.path.chain.plan().rate();
         let turn = self
@@ -141,9 +95,7 @@ impl<B: Feeder> PlayChannelOf<B> {
     /// No descriptor has the channel any more: what was written plays to its end.
     pub fn close(&mut self, here: Here)
         requires { MayEndRun B.kind self.old }
-        ensures book { ClosesBook here self.old self.new }
-        ensures device { self.new.path.device ≡ self.old.path.device }
-        ensures moves { (filters : Filters) → PlayMoves B.kind B.kept filters [] 0 self.old self.new }
+        ensures { PlayLeaves B.kind B.kept (ClosesBook here) self.old self.new }
     {
         let rate = self.path.chain.plan().rate();
         self.book = self.book.closed(rate, here);
@@ -155,9 +107,7 @@ impl<B: Feeder> PlayChannelOf<B> {
     /// After a hand-over: a draining run of which nothing is left to pass ends.
     pub fn settle(&mut self, here: Here)
         requires { MayEndRun B.kind self.old }
-        ensures book { SettlesBook here self.old self.new }
-        ensures device { self.new.path.device ≡ self.old.path.device }
-        ensures moves { (filters : Filters) → PlayMoves B.kind B.kept filters [] 0 self.old self.new }
+        ensures { PlayLeaves B.kind B.kept (SettlesBook here) self.old self.new }
     {
         // No other run ends by what passes.
         if !self.book.is_draining() {
@@ -209,6 +159,43 @@ impl<B: Feeder> PlayChannelOf<B> {
         self.book = self
             .book
             .refilled(self.path.chain.plan().rate(), here.mixed, n as u64);
+    }
+}
+
+impl<B: Feeder> Channel<B> for PlayChannelOf<B> {
+    ghost use Rattle.pcm_play.specs.Channels.{IsPlayUnopened, PlayMoves};
+
+    ghost path = { λ channel. channel.path };
+
+    ghost is_free = { λ channel. is_play_free channel.book.state };
+
+    ghost is_unopened = { IsPlayUnopened B.kind B.kept };
+
+    ghost begins = { λ filters settings.
+        ChannelMoves (λ channel. channel.path) (λ channel. channel.book) (play_begun settings) (PlayMoves B.kind B.kept filters [] 0) };
+
+    fn new(alloc: Global, device: Device, tables: &Tables, rack: RackOf<B>) -> Made<Self>
+        requires device { HasRates device }
+        requires kinds { IsRack B.kind rack }
+        ensures unopened { IfOk result (IsPlayUnopened B.kind B.kept tables.now device) }
+        ensures boxes { IfOk result (λ made. HasRack B.mark rack made.path.chain) }
+    {
+        let mut path = PathOf::new(alloc, device, rack)?;
+        let book = PlayBook {
+            state: PlayState::Free,
+            ..PlayBook::begun(device.mix)
+        };
+        path.begin(Way::Play, tables, &book.opening);
+        Ok(PlayChannelOf { book, path })
+    }
+
+    fn is_free(&self) -> bool {
+        self.is_free()
+    }
+
+    fn begin(&mut self, tables: &Tables, settings: Settings) {
+        self.book = PlayBook::begun(settings);
+        self.path.begin(Way::Play, tables, &self.book.opening);
     }
 }
 

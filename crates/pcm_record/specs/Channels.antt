@@ -22,7 +22,8 @@ use Rattle.pcm_desk.specs.RunStates.{is_unheld}
 use Rattle.pcm_desk.specs.RecordBooks.{keeping}
 use Rattle.pcm_sound.specs.Given.{recorded_bytes}
 use Rattle.pcm_oss.specs.declared.event.Way.TheVariants.{Record}
-use Rattle.pcm_path.specs.Paths.{HasBoxes, IsPlanned}
+use Rattle.pcm_desk.specs.declared.turn.Turn.{Turn}
+use Rattle.pcm_path.specs.Paths.{HasBoxes, IsPlanned, LeavesOf, TurnsOf}
 use Rattle.pcm_record.specs.declared.channel.RecordChannelOf.{RecordChannelOf}
 
 -- the bytes that were kept and not yet read
@@ -96,3 +97,17 @@ abbrev pub CaptureMoves : {B : Type 0} → (B → Kind) → (B → Kept) → Fil
 CaptureMoves kind keeps filters n samples old new =
     RecordMoves kind keeps filters (frames_of (channels_of old.path.device.settings.layout) samples)
     (keeping (record_rate_at (seen filters old.path.device) old.book) n old.book) old new
+
+-- what a channel needs so that it can be asked something
+pub record MayAskRecord {B : Type 0} (kind : B → Kind) (filters : Filters) (channel : RecordChannelOf B) : Type 0 where
+  pub kinds : HasBoxes kind channel.path
+  pub planned : IsRecordServed filters channel
+
+-- what a call leaves of a channel by the turn of its book, and what one by which it has this book
+abbrev pub RecordTurns : {B : Type 0} → Turn RecordBook → (RecordChannelOf B → RecordChannelOf B → Type 0) → Result Answer Errno
+    → RecordChannelOf B → RecordChannelOf B → Type 0
+RecordTurns turn = TurnsOf (λ channel. channel.path) (λ channel. channel.book) turn.book turn.reply
+
+abbrev pub RecordLeaves : {B : Type 0} → RecordBook → (RecordChannelOf B → RecordChannelOf B → Type 0) → RecordChannelOf B
+    → RecordChannelOf B → Type 0
+RecordLeaves book = LeavesOf (λ channel. channel.path) (λ old new. new.book ≡ book)

@@ -4,7 +4,6 @@ ghost use Rattle.std.specs.Prelude.{◌≡◌, ◌+◌, ◌*◌, ◌^◌, ◌<�
 ghost use Rattle.pcm_format.specs.Layouts.{channels_of};
 ghost use Rattle.pcm_oss.specs.declared.fragments.TheConstants.{RING_BYTES};
 ghost use Rattle.pcm_oss.specs.Replies.{bytes_due};
-ghost use Rattle.pcm_feeder.specs.Limits.{IsRate};
 ghost use Rattle.pcm_feeder.specs.Racks.{IsRack};
 ghost use Rattle.pcm_chain.specs.Chains.{HasRack};
 ghost use Rattle.pcm_desk.specs.declared.limits.TheConstants.{RING_FRAMES};
@@ -14,7 +13,7 @@ ghost use Rattle.pcm_desk.specs.RecordBooks.{closed, read_turn, record_begun, re
 ghost use Rattle.pcm_desk.specs.RecordRequests.{record_ask};
 ghost use Rattle.pcm_desk.specs.RecordSafe.{RecordIsSafe};
 ghost use Rattle.pcm_desk.proofs.Props.{record_props};
-ghost use Rattle.pcm_path.specs.Paths.{path_rate, HasBoxes, Serves};
+ghost use Rattle.pcm_path.specs.Paths.{path_rate, ChannelMoves, HasBoxes, Serves};
 ghost use Rattle.std.proofs.Props.{props};
 ghost use Rattle.pcm_desk.specs.Channels.{capturing};
 
@@ -22,8 +21,8 @@ use pcm_desk::{Device, RecordBook, RunState};
 use pcm_feeder::{Feeder, RackOf, Tables};
 use pcm_format::Settings;
 use pcm_oss::{Answer, Errno, Request, Way};
-use pcm_path::PathOf;
-use std::alloc::{AllocError, Global};
+use pcm_path::{Channel, Made, PathOf};
+use std::alloc::Global;
 
 /// A channel that records from the device.
 #[derive(Drop)]
@@ -38,28 +37,7 @@ pub struct RecordChannelOf<B> {
 
 impl<B: Feeder> RecordChannelOf<B> {
     ghost use Rattle.pcm_feeder.specs.Filters.{Filters};
-    ghost use Rattle.pcm_record.specs.Channels.{CaptureFits, CaptureMoves, GivesUnread, IsRecordServed, IsRecordUnopened, RecordMoves, RecordStandsForSome};
-
-    /// A channel of a device that nobody has opened.
-    pub fn new(
-        alloc: Global,
-        device: Device,
-        tables: &Tables,
-        rack: RackOf<B>,
-    ) -> Result<RecordChannelOf<B>, AllocError>
-        requires device { HasRates device }
-        requires kinds { IsRack B.kind rack }
-        ensures unopened { IfOk result (IsRecordUnopened B.kind B.kept tables.now device) }
-        ensures boxes { IfOk result (λ made. HasRack B.mark rack made.path.chain) }
-    {
-        let mut path = PathOf::new(alloc, device, rack)?;
-        let book = RecordBook {
-            state: RunState::Free,
-            ..RecordBook::begun(device.settings)
-        };
-        path.begin(Way::Record, tables, &book.opening);
-        Ok(RecordChannelOf { book, path })
-    }
+    ghost use Rattle.pcm_record.specs.Channels.{CaptureFits, CaptureMoves, GivesUnread, IsRecordServed, MayAskRecord, RecordLeaves, RecordMoves, RecordStandsForSome, RecordTurns};
 
     /// Whether nobody has the channel.
     pub fn is_free(&self) -> bool
@@ -73,18 +51,6 @@ impl<B: Feeder> RecordChannelOf<B> {
         ensures { result ≡ is_in_setup self.now.book.state }
     {
         self.book.is_setup()
-    }
-
-    /// A new opening begins, whose sound comes through the plan of its settings.
-    pub fn begin(&mut self, tables: &Tables, settings: Settings)
-        requires rate { IsRate settings.rate }
-        requires kinds { HasBoxes B.kind self.old.path }
-        ensures book { self.new.book ≡ record_begun settings }
-        ensures device { self.new.path.device ≡ self.old.path.device }
-        ensures moves { RecordMoves B.kind B.kept tables.now [] 0 self.old self.new }
-    {
-        self.book = RecordBook::begun(settings);
-        self.path.begin(Way::Record, tables, &self.book.opening);
     }
 
     /// Moves the bytes that have waited longest to the front of `out`, as many as there are, and answers how many.
@@ -109,13 +75,8 @@ impl<B: Feeder> RecordChannelOf<B> {
 
     /// Does what a request asks. Where the channel isn't running then, the ring and the chain begin again, as the book says.
     pub fn ioctl(&mut self, tables: &Tables, request: Request) -> Result<Answer, Errno>
-        requires kinds { HasBoxes B.kind self.old.path }
-        requires planned { IsRecordServed tables.now self.old }
-        ensures book { self.new.book ≡ (record_ask request self.old.book).book }
-        ensures reply { result ≡ (record_ask request self.old.book).reply }
-        ensures device { self.new.path.device ≡ self.old.path.device }
-        ensures refused { OnErr result (self.new ≡ self.old) }
-        ensures moves { RecordMoves B.kind B.kept tables.now [] 0 self.old self.new }
+        requires { MayAskRecord B.kind tables.now self.old }
+        ensures { RecordTurns (record_ask request self.old.book) (RecordMoves B.kind B.kept tables.now [] 0) result self.old self.new }
     {
         let turn = self.book.asked(request);
         let answer = turn.reply?;
@@ -129,9 +90,7 @@ impl<B: Feeder> RecordChannelOf<B> {
     /// No descriptor has the channel any more: what wasn't read is dropped.
     pub fn close(&mut self)
         requires kinds { HasBoxes B.kind self.old.path }
-        ensures book { self.new.book ≡ closed self.old.book }
-        ensures device { self.new.path.device ≡ self.old.path.device }
-        ensures moves { (filters : Filters) → RecordMoves B.kind B.kept filters [] 0 self.old self.new }
+        ensures { RecordLeaves (closed self.old.book) (λ old new. (filters : Filters) → RecordMoves B.kind B.kept filters [] 0 old new) self.old self.new }
     {
         self.book = self.book.closed();
         self.path.restart();
@@ -146,9 +105,8 @@ impl<B: Feeder> RecordChannelOf<B> {
         requires stands { RecordStandsForSome B.kept tables.now self.old }
         requires count { CaptureFits tables.now frames self.old }
         requires kept { self.old.book.kept + RING_BYTES < 2 ^ 64 }
-        ensures book { self.new.book ≡ capturing (seen tables.now self.old.path.device) frames self.old.book }
-        ensures device { self.new.path.device ≡ self.old.path.device }
-        ensures moves { CaptureMoves B.kind B.kept tables.now frames input.now self.old self.new }
+        ensures { RecordLeaves (capturing (seen tables.now self.old.path.device) frames self.old.book)
+            (CaptureMoves B.kind B.kept tables.now frames input.now) self.old self.new }
     {
         if !self.book.is_running() {
             return;
@@ -158,6 +116,43 @@ impl<B: Feeder> RecordChannelOf<B> {
         chain.push(tables, input, ring, format);
         let rate = self.path.chain.plan().rate();
         self.book = self.book.captured(rate, frames as u64);
+    }
+}
+
+impl<B: Feeder> Channel<B> for RecordChannelOf<B> {
+    ghost use Rattle.pcm_record.specs.Channels.{IsRecordUnopened, RecordMoves};
+
+    ghost path = { λ channel. channel.path };
+
+    ghost is_free = { λ channel. is_unheld channel.book.state };
+
+    ghost is_unopened = { IsRecordUnopened B.kind B.kept };
+
+    ghost begins = { λ filters settings.
+        ChannelMoves (λ channel. channel.path) (λ channel. channel.book) (record_begun settings) (RecordMoves B.kind B.kept filters [] 0) };
+
+    fn new(alloc: Global, device: Device, tables: &Tables, rack: RackOf<B>) -> Made<Self>
+        requires device { HasRates device }
+        requires kinds { IsRack B.kind rack }
+        ensures unopened { IfOk result (IsRecordUnopened B.kind B.kept tables.now device) }
+        ensures boxes { IfOk result (λ made. HasRack B.mark rack made.path.chain) }
+    {
+        let mut path = PathOf::new(alloc, device, rack)?;
+        let book = RecordBook {
+            state: RunState::Free,
+            ..RecordBook::begun(device.settings)
+        };
+        path.begin(Way::Record, tables, &book.opening);
+        Ok(RecordChannelOf { book, path })
+    }
+
+    fn is_free(&self) -> bool {
+        self.is_free()
+    }
+
+    fn begin(&mut self, tables: &Tables, settings: Settings) {
+        self.book = RecordBook::begun(settings);
+        self.path.begin(Way::Record, tables, &self.book.opening);
     }
 }
 

@@ -36,8 +36,8 @@ use Rattle.pcm_map.specs.Channels.{IsMapReady, MapMoves, area_of}
 use Rattle.pcm_map.proofs.Moving.{moves-nothing}
 use Rattle.pcm_sound.specs.Areas.{is_recut, silences, silent_area}
 use Rattle.pcm_bus.specs.Slots.{AreLeft, Each, IsPlayDue, PlayMixes, map_books_of, play_books_of}
-use Rattle.pcm_vchan.specs.Slots.{MapKeeps, Passes, Settles, record_books_of}
-use Rattle.pcm_play.specs.Channels.{IsPlayReady, MayEndRun, PlayMoves, PlayStands}
+use Rattle.pcm_vchan.specs.Slots.{MapKeeps, Passes, record_books_of}
+use Rattle.pcm_play.specs.Channels.{IsPlayReady, MayEndRun, PlayLeaves, PlayMoves, PlayStands, SettlesBook}
 
 -- the books once one channel changed, whose book changed by `how`
 books-set : {C Book : Type 0} (book : C → Book) (how : Book → Book) (channels : List C) (slot : ℕ) (old new : C) (other : Book) → slot < length channels → old ≡ get_or channels slot old → book new ≡ how (book old)
@@ -219,24 +219,31 @@ pub record IsPassed {B : Type 0} (kind : B → Kind) (kept : B → Kept) (filter
   pub book : Passes (seen filters device) handed n old new
 
 -- all of them are so, which were mixed, and whose runs may have ended then
-pub all-passed : {B : Type 0} {kind : B → Kind} {kept : B → Kept} {filters : Filters} {device : Device} (handed n : ℕ) {frames mixed : ℕ} {here : Here} {old between : Fixed (PlayChannelOf B)} (new : Fixed (PlayChannelOf B))
+pub all-passed : {B : Type 0} {kind : B → Kind} {kept : B → Kept} {filters : Filters} {device : Device}
+    (handed n : ℕ) {frames mixed : ℕ} (here : Here) {old between : Fixed (PlayChannelOf B)} (new : Fixed (PlayChannelOf B))
     → frames ≡ mixed_by (seen filters device) handed n → mixed ≡ mixed_for (seen filters device) handed → here.passed ≡ passed_for (seen filters device) (handed + n) → All (IsPlayDue kind kept filters device frames) (fixed_items old)
-    → AreLeft (PlayMixes kind kept filters device mixed frames) old between → Each (Settles kind kept here) (fixed_items between) (fixed_items new) → Each (IsPassed kind kept filters device handed n frames) (fixed_items old) (fixed_items new)
-all-passed {kind = kind} {kept = kept} {filters = filters} handed n {frames = frames} {old = old} {between = between} new count level passed due m settled = λ slot other within.
+    → AreLeft (PlayMixes kind kept filters device mixed frames) old between
+    → Each (PlayLeaves kind kept (SettlesBook here)) (fixed_items between) (fixed_items new)
+    → Each (IsPassed kind kept filters device handed n frames) (fixed_items old) (fixed_items new)
+all-passed {kind = kind} {kept = kept} {filters = filters} handed n {frames = frames} here {old = old} {between = between} new count level
+    passed due m settled = λ slot other within.
     let p = m.each slot other within in
     let s = settled slot other (omega (arith, items-count old, items-count between, m.len)) in
     let own = p.own in
     let book = p.book in
     let last = s.book filters (p.moves.planned (due slot other within).ready.planned) in
     record {
-      own = s.device_same ∙ own;
-      moves = moves-settled kind kept filters frames (get_or (fixed_items old) slot other) (get_or (fixed_items between) slot other) (get_or (fixed_items new) slot other) p.moves (s.moves filters);
+      own = s.device ∙ own;
+      moves = moves-settled kind kept filters frames (get_or (fixed_items old) slot other) (get_or (fixed_items between) slot other)
+          (get_or (fixed_items new) slot other) p.moves (s.moves filters);
       book = cc;
     }
 
 -- each of them may end a run once it was mixed
-pub may-settle : {B : Type 0} {kind : B → Kind} {kept : B → Kept} {filters : Filters} {device : Device} {frames mixed : ℕ} {old between : Fixed (PlayChannelOf B)}
-    → All (IsPlayDue kind kept filters device frames) (fixed_items old) → AreLeft (PlayMixes kind kept filters device mixed frames) old between → All (MayEndRun kind) (fixed_items between)
+pub may-settle : {B : Type 0} {kind : B → Kind} {kept : B → Kept} {filters : Filters} {device : Device} {frames mixed : ℕ}
+    {old between : Fixed (PlayChannelOf B)}
+    → All (IsPlayDue kind kept filters device frames) (fixed_items old)
+    → AreLeft (PlayMixes kind kept filters device mixed frames) old between → All (MayEndRun kind) (fixed_items between)
 may-settle {old = old} {between = between} due m = λ slot other within.
     let there : slot < length (fixed_items old) = omega (arith, items-count old, items-count between, m.len) in
     let d = due slot other there in

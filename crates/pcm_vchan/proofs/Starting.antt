@@ -9,11 +9,8 @@ use Rattle.pcm_feeder.specs.Kept.{Kept}
 use Rattle.pcm_group.specs.Groups.{all_in, change_in}
 use Rattle.pcm_group.proofs.Members.{all_in-drop, get_or-change_in, length-change_in}
 use Rattle.pcm_desk.specs.declared.here.Here.{Here}
-use Rattle.pcm_desk.specs.declared.device.Device.{Device}
 use Rattle.pcm_desk.specs.declared.play_book.PlayBook.{PlayBook}
-use Rattle.pcm_desk.specs.Device.{seen}
 use Rattle.pcm_desk.specs.PlayBooks.{play_is_ready}
-use Rattle.pcm_desk.specs.Channels.{play_starting}
 use Rattle.pcm_play.specs.declared.channel.PlayChannelOf.{PlayChannelOf}
 use Rattle.pcm_play.proofs.Moving.{moves-nothing}
 use Rattle.pcm_bus.specs.Slots.{play_books_of}
@@ -61,8 +58,3 @@ books-started {Book = Book} book starting group slots old new some same each =
     get_or-map book new k other d there ∙ each k other before
     ∙ ap (λ (b : Book). cond (is_in slots group k) (starting b) b) (sym (get_or-map book old k other d before))
     ∙ sym (get_or-change_in group starting slots books k d some listed))
-
--- of those that play, whose device is one
-pub play-started : {B : Type 0} (filters : Filters) (here : Here) (device : Device) (member : Bool) (old new : PlayChannelOf B) → old.path.device ≡ device → new.book ≡ cond member (play_starting (seen filters old.path.device) here old.book) old.book
-    → new.book ≡ cond member (play_starting (seen filters device) here old.book) old.book
-play-started filters here device member old new own is = is ∙ ap (λ (d : Device). cond member (play_starting (seen filters d) here old.book) old.book) own

@@ -1,5 +1,5 @@
 -- The channels of a device, by slot.
-use Rattle.std.specs.Prelude.{◌≡◌, ℕ, ◌+◌, ◌-◌, ◌^◌, ◌<◌, if◌then◌else◌, List, [], length, map, slice_index_or, All}
+use Rattle.std.specs.Prelude.{◌≡◌, ℕ, ◌+◌, ◌-◌, ◌^◌, ◌<◌, List, length, map, slice_index_or, All}
 use Rattle.pcm_feeder.specs.declared.kind.Kind.{Kind}
 use Rattle.pcm_feeder.specs.Filters.{Filters}
 use Rattle.pcm_feeder.specs.Kept.{Kept}
@@ -7,18 +7,14 @@ use Rattle.pcm_format.specs.Frames.{Frame}
 use Rattle.pcm_oss.specs.declared.event.Way.{Way}
 use Rattle.pcm_desk.specs.declared.record_book.RecordBook.{RecordBook}
 use Rattle.pcm_desk.specs.declared.device.Device.{Device}
-use Rattle.pcm_desk.specs.declared.here.Here.{Here}
 use Rattle.pcm_desk.specs.Channels.{by_way, play_passing}
 use Rattle.pcm_desk.specs.Device.{DeviceSeen}
-use Rattle.pcm_path.specs.declared.path.PathOf.{PathOf}
 use Rattle.pcm_play.specs.declared.channel.PlayChannelOf.{PlayChannelOf}
 use Rattle.pcm_oss.specs.declared.fragments.TheConstants.{RING_BYTES}
-use Rattle.pcm_play.specs.Channels.{PlayMoves, SettlesBook}
 use Rattle.pcm_record.specs.declared.channel.RecordChannelOf.{RecordChannelOf}
 use Rattle.pcm_record.specs.Channels.{CaptureFits, IsRecordReady, RecordStands}
-use Rattle.pcm_map.specs.declared.channel.MapChannelOf.{MapChannelOf}
-use Rattle.pcm_map.specs.Channels.{MapMoves, area_of}
-use Rattle.pcm_sound.specs.Areas.{silences, silent_area}
+pub use Rattle.pcm_path.specs.Paths.{ChannelMoves}
+pub use Rattle.pcm_map.specs.Channels.{MapKeeps}
 
 -- the place of a slot among those of its way, by its number, beside `slots` that play: `slot_number` backwards
 abbrev pub slot_place : ℕ → Way → ℕ → ℕ
@@ -27,18 +23,6 @@ slot_place slots way number = by_way way number number (number - slots)
 -- the book of a channel after an interrupt of n frames, where the device had been given `handed` before
 abbrev pub Passes : {B : Type 0} → DeviceSeen → ℕ → ℕ → PlayChannelOf B → PlayChannelOf B → Type 0
 Passes device handed n old new = new.book ≡ play_passing device handed n old.book
-
--- what a call leaves of a channel of whichever way: it is of the device as before, its book is this one, and what it stood for is kept so
-pub record ChannelMoves {B C Book : Type 0} (path : C → PathOf B) (book_of : C → Book) (left : Book) (keeps : C → C → Type 0) (old new : C) : Type 0 where
-  pub device_same : (path new).device ≡ (path old).device
-  pub book : book_of new ≡ left
-  pub moves : keeps old new
-
--- what a hand-over leaves of one that plays
-pub record Settles {B : Type 0} (kind : B → Kind) (kept : B → Kept) (here : Here) (old new : PlayChannelOf B) : Type 0 where
-  pub device_same : new.path.device ≡ old.path.device
-  pub book : SettlesBook here old new
-  pub moves : (filters : Filters) → PlayMoves kind kept filters [] 0 old new
 
 -- ---- channels that record
 
@@ -61,11 +45,3 @@ pub record IsRecordDue {B : Type 0} (kind : B → Kind) (keeps : B → Kept) (fi
   pub ready : IsRecordReady kind keeps filters channel
   pub captured : CaptureFits filters frames channel
   pub kept : channel.book.kept + RING_BYTES < 2 ^ 64
-
--- ---- mapped channels
-
--- What a call leaves of a channel, which writes so into its area: it takes nothing, and the area is silent again where another opening
--- begins, or its format, its channels or its fragments are others.
-pub record MapKeeps {B : Type 0} (kind : B → Kind) (kept : B → Kept) (filters : Filters) (writes : List ℕ → List ℕ) (old new : MapChannelOf B) : Type 0 where
-  pub moves : MapMoves kind kept filters [] 0 old new
-  pub area : area_of new ≡ (if silences old.book new.book then silent_area new.book.opening else writes (area_of old))

@@ -17,8 +17,8 @@ ghost use Rattle.pcm_desk.specs.Desk.{slot_number};
 ghost use Rattle.pcm_desk.specs.Here.{IsHere};
 ghost use Rattle.pcm_desk.specs.PlayBooks.{play_is_ready};
 ghost use Rattle.pcm_bus.specs.Slots.{Each, MapAreOf, PlayAreOf};
-ghost use Rattle.pcm_vchan.specs.Slots.{slot_place, RecordAreOf, Settles};
-ghost use Rattle.pcm_play.specs.Channels.{IsPlayHere, MayEndRun};
+ghost use Rattle.pcm_vchan.specs.Slots.{slot_place, RecordAreOf};
+ghost use Rattle.pcm_play.specs.Channels.{IsPlayHere, MayEndRun, PlayLeaves, SettlesBook};
 ghost use Rattle.pcm_bus.specs.Blocks.{silent_ring};
 ghost use Rattle.pcm_bus.specs.Handovers.{HasMade, IsPlannedBy};
 
@@ -303,7 +303,7 @@ impl<B: Feeder> ParentOf<B> {
         requires due { All (MayEndRun B.kind) (play_channels self.old) }
         ensures device { self.new.device ≡ self.old.device }
         ensures slots { length (play_channels self.new) ≡ length (play_channels self.old) }
-        ensures settled { Each (Settles B.kind B.kept (here_of self.new)) (play_channels self.old) (play_channels self.new) }
+        ensures settled { Each (PlayLeaves B.kind B.kept (SettlesBook (here_of self.new))) (play_channels self.old) (play_channels self.new) }
         ensures recorders { self.new.recorders ≡ self.old.recorders }
         ensures maps { self.new.maps ≡ self.old.maps }
         ensures mixer { self.new.mixer ≡ self.old.mixer }

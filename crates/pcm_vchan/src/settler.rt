@@ -12,12 +12,11 @@ pub(crate) struct Settling {
 }
 
 impl<B: Feeder> Visit<PlayChannelOf<B>> for Settling {
-    ghost use Rattle.pcm_play.specs.Channels.{MayEndRun};
-    ghost use Rattle.pcm_vchan.specs.Slots.{Settles};
+    ghost use Rattle.pcm_play.specs.Channels.{MayEndRun, PlayLeaves, SettlesBook};
 
     ghost may = { λ _. MayEndRun B.kind };
 
-    ghost leaves = { λ settling _. Settles B.kind B.kept settling.here };
+    ghost leaves = { λ settling _. PlayLeaves B.kind B.kept (SettlesBook settling.here) };
 
     fn visit(&self, _slot: usize, channel: &mut PlayChannelOf<B>) {
         channel.settle(self.here);

@@ -10,7 +10,7 @@ use Rattle.pcm_desk.specs.MapSafe.{MapIsSafe}
 use Rattle.pcm_desk.specs.Openings.{ring_bytes}
 use Rattle.pcm_desk.proofs.MapSafe.{map-safe-unstarted}
 use Rattle.pcm_map.proofs.Moving.{stands-empty}
-use Rattle.pcm_map.proofs.channel.MapChannelOf.new.Goals as goal
+use Rattle.pcm_map.proofs.channel.MapChannelOfChannel.new.Goals as goal
 
 pub invariant_of-result-clause-safe : goal.invariant_of-result-clause-safe
 invariant_of-result-clause-safe g c =

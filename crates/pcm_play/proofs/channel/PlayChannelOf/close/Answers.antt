@@ -35,25 +35,27 @@ invariant_of-self-else-self-eq0 g c =
       safe = k.left.safe;
     }
 
-pub returns-then-self-eq0-clause-book : goal.returns-then-self-eq0-clause-book
-returns-then-self-eq0-clause-book g c = λ filters served.
-    closed-is filters c.args.here c.args.self.now c.closed-self.result c.rate-rate.result c.plan.result.now served c.closed-self.ensures c.rate-rate.ensures.value c.plan.ensures
+pub returns-then-self-eq0 : goal.returns-then-self-eq0
+returns-then-self-eq0 g c = record {
+  device = c.restart.ensures.device;
+  book = λ filters served.
+      closed-is filters c.args.here c.args.self.now c.closed-self.result c.rate-rate.result c.plan.result.now served c.closed-self.ensures c.rate-rate.ensures.value c.plan.ensures;
+  moves = λ filters.
+      let old = c.args.self.now in
+      let k = book-closed old c.args.here c.closed-self.result c.rate-rate.result c.plan.result.now c.closed-self.ensures c.rate-rate.ensures.value c.plan.ensures in
+      let left = k.left in
+      let none = left.ended c.if-self-eq0.true in
+      moves-ended g.B.Feeder.kind g.B.Feeder.kept filters _ 0 old _ c.restart.ensures.kinds (λ p used. planned-as Play filters _ _ old.path c.restart.new.self c.restart.ensures.device c.restart.ensures.plan k.keeps.settings (p (closed-held c.rate-rate.result c.args.here old.book (ap (λ (b : PlayBook). is_play_free b.state) (sym c.closed-self.ensures) ∙ used)))) c.if-self-eq0.true none.0 none.1 c.restart.ensures.empty
+      (left.done c.if-self-eq0.true);
+}
 
-pub returns-else-self-eq0-clause-book : goal.returns-else-self-eq0-clause-book
-returns-else-self-eq0-clause-book g c = λ filters served.
-    closed-is filters c.args.here c.args.self.now c.closed-self.result c.rate-rate.result c.plan.result.now served c.closed-self.ensures c.rate-rate.ensures.value c.plan.ensures
-
-pub returns-then-self-eq0-clause-moves : goal.returns-then-self-eq0-clause-moves
-returns-then-self-eq0-clause-moves g c = λ filters.
-    let old = c.args.self.now in
-    let k = book-closed old c.args.here c.closed-self.result c.rate-rate.result c.plan.result.now c.closed-self.ensures c.rate-rate.ensures.value c.plan.ensures in
-    let left = k.left in
-    let none = left.ended c.if-self-eq0.true in
-    moves-ended g.B.Feeder.kind g.B.Feeder.kept filters _ 0 old _ c.restart.ensures.kinds (λ p used. planned-as Play filters _ _ old.path c.restart.new.self c.restart.ensures.device c.restart.ensures.plan k.keeps.settings (p (closed-held c.rate-rate.result c.args.here old.book (ap (λ (b : PlayBook). is_play_free b.state) (sym c.closed-self.ensures) ∙ used)))) c.if-self-eq0.true none.0 none.1 c.restart.ensures.empty
-    (left.done c.if-self-eq0.true)
-
-pub returns-else-self-eq0-clause-moves : goal.returns-else-self-eq0-clause-moves
-returns-else-self-eq0-clause-moves g c = λ filters.
-    let old = c.args.self.now in
-    let left = (book-closed old c.args.here c.closed-self.result c.rate-rate.result c.plan.result.now c.closed-self.ensures c.rate-rate.ensures.value c.plan.ensures).left in
-    moves-state g.B.Feeder.kind g.B.Feeder.kept filters old _ refl refl refl (left.goes c.if-self-eq0.false) c.if-self-eq0.false
+pub returns-else-self-eq0 : goal.returns-else-self-eq0
+returns-else-self-eq0 g c = record {
+  device = refl;
+  book = λ filters served.
+      closed-is filters c.args.here c.args.self.now c.closed-self.result c.rate-rate.result c.plan.result.now served c.closed-self.ensures c.rate-rate.ensures.value c.plan.ensures;
+  moves = λ filters.
+      let old = c.args.self.now in
+      let left = (book-closed old c.args.here c.closed-self.result c.rate-rate.result c.plan.result.now c.closed-self.ensures c.rate-rate.ensures.value c.plan.ensures).left in
+      moves-state g.B.Feeder.kind g.B.Feeder.kept filters old _ refl refl refl (left.goes c.if-self-eq0.false) c.if-self-eq0.false;
+}

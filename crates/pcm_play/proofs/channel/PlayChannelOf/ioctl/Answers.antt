@@ -1,4 +1,4 @@
-use Rattle.std.proofs.Common.{rules, ◌≡◌, ap, sym, subst, ◌∙◌, length, refl}
+use Rattle.std.proofs.Common.{rules, ◌≡◌, [], ap, sym, subst, ◌∙◌, length, refl}
 use Rattle.pcm_format.specs.Frames.{frame_bytes}
 use Rattle.pcm_path.proofs.Paths.{serves-as}
 use Rattle.pcm_plan.specs.Plans.{PlanSeen, rate_in_plan}
@@ -9,7 +9,7 @@ use Rattle.pcm_desk.specs.declared.turn.Turn.{Turn}
 use Rattle.pcm_desk.specs.Channels.{play_rate_at}
 use Rattle.pcm_desk.specs.PlaySafe.{PlayIsSafe}
 use Rattle.pcm_desk.proofs.Refused.{ask-refused}
-use Rattle.pcm_play.proofs.Moving.{asked-here, asked-is, book-asked, moves-ended, moves-state, safe-asked}
+use Rattle.pcm_play.proofs.Moving.{asked-here, asked-is, book-asked, moves-ended, moves-nothing, moves-state, safe-asked}
 use Rattle.pcm_desk.proofs.Ratios.{device-is}
 use Rattle.pcm_play.proofs.channel.PlayChannelOf.ioctl.Goals as goal
 
@@ -55,39 +55,44 @@ invariant_of-self-else-self-eq0 g c =
       safe = left.safe;
     }
 
-pub returns-then-self-eq0-clause-moves : goal.returns-then-self-eq0-clause-moves
-returns-then-self-eq0-clause-moves g c =
+pub returns-then-self-eq0 : goal.returns-then-self-eq0
+returns-then-self-eq0 g c =
     let old = c.args.self.now in
     let left = book-asked c.args.here c.args.request old c.asked-turn.result c.rate-rate.result c.plan.result.now c.asked-turn.ensures c.rate-rate.ensures.value c.plan.ensures in
     let none = left.ended c.if-self-eq0.true in
-    moves-ended g.B.Feeder.kind g.B.Feeder.kept c.args.tables.now _ 0 old _ c.begin.ensures.kinds
-    (λ p used. c.begin.ensures.planned) c.if-self-eq0.true none.0 none.1 c.begin.ensures.empty (left.done c.if-self-eq0.true)
+    let asked = asked-is c.args.tables.now c.args.here c.args.request old c.asked-turn.result c.rate-rate.result c.plan.result.now c.requires.planned c.asked-turn.ensures c.rate-rate.ensures.value c.plan.ensures in
+    record {
+      book = ap (λ (t : Turn PlayBook). t.book) asked;
+      reply = sym c.in_ok-answer.was ∙ ap (λ (t : Turn PlayBook). t.reply) asked;
+      device = c.begin.ensures.device;
+      refused = search rules;
+      moves = moves-ended g.B.Feeder.kind g.B.Feeder.kept c.args.tables.now _ 0 old _ c.begin.ensures.kinds
+          (λ p used. c.begin.ensures.planned) c.if-self-eq0.true none.0 none.1 c.begin.ensures.empty (left.done c.if-self-eq0.true);
+    }
 
-pub returns-else-self-eq0-clause-moves : goal.returns-else-self-eq0-clause-moves
-returns-else-self-eq0-clause-moves g c =
+pub returns-else-self-eq0 : goal.returns-else-self-eq0
+returns-else-self-eq0 g c =
     let old = c.args.self.now in
     let left = book-asked c.args.here c.args.request old c.asked-turn.result c.rate-rate.result c.plan.result.now c.asked-turn.ensures c.rate-rate.ensures.value c.plan.ensures in
-    moves-state g.B.Feeder.kind g.B.Feeder.kept c.args.tables.now old _ refl refl refl (left.goes c.if-self-eq0.false) c.if-self-eq0.false
+    let asked = asked-is c.args.tables.now c.args.here c.args.request old c.asked-turn.result c.rate-rate.result c.plan.result.now c.requires.planned c.asked-turn.ensures c.rate-rate.ensures.value c.plan.ensures in
+    record {
+      book = ap (λ (t : Turn PlayBook). t.book) asked;
+      reply = sym c.in_ok-answer.was ∙ ap (λ (t : Turn PlayBook). t.reply) asked;
+      device = refl;
+      refused = search rules;
+      moves = moves-state g.B.Feeder.kind g.B.Feeder.kept c.args.tables.now old _ refl refl refl (left.goes c.if-self-eq0.false) c.if-self-eq0.false;
+    }
 
 -- what is refused leaves the book
-pub returns-in_err-answer-clause-book : goal.returns-in_err-answer-clause-book
-returns-in_err-answer-clause-book g c =
+pub returns-in_err-answer : goal.returns-in_err-answer
+returns-in_err-answer g c =
     let old = c.args.self.now in
-    let asked = asked-is c.args.tables.now c.args.here c.args.request c.args.self.now c.asked-turn.result c.rate-rate.result c.plan.result.now c.requires.planned c.asked-turn.ensures c.rate-rate.ensures.value c.plan.ensures in
-    sym (ask-refused (play_rate_at (seen c.args.tables.now old.path.device) old.book) old.path.device.mix.rate c.args.here c.args.request old.book c.in_err-answer.field-0.0 (ap (λ (t : Turn PlayBook). t.reply) (sym asked) ∙ c.in_err-answer.was))
-
-pub returns-then-self-eq0-clause-book : goal.returns-then-self-eq0-clause-book
-returns-then-self-eq0-clause-book g c =
-    ap (λ (t : Turn PlayBook). t.book) (asked-is c.args.tables.now c.args.here c.args.request c.args.self.now c.asked-turn.result c.rate-rate.result c.plan.result.now c.requires.planned c.asked-turn.ensures c.rate-rate.ensures.value c.plan.ensures)
-
-pub returns-then-self-eq0-clause-reply : goal.returns-then-self-eq0-clause-reply
-returns-then-self-eq0-clause-reply g c =
-    sym c.in_ok-answer.was ∙ ap (λ (t : Turn PlayBook). t.reply) (asked-is c.args.tables.now c.args.here c.args.request c.args.self.now c.asked-turn.result c.rate-rate.result c.plan.result.now c.requires.planned c.asked-turn.ensures c.rate-rate.ensures.value c.plan.ensures)
-
-pub returns-else-self-eq0-clause-book : goal.returns-else-self-eq0-clause-book
-returns-else-self-eq0-clause-book g c =
-    ap (λ (t : Turn PlayBook). t.book) (asked-is c.args.tables.now c.args.here c.args.request c.args.self.now c.asked-turn.result c.rate-rate.result c.plan.result.now c.requires.planned c.asked-turn.ensures c.rate-rate.ensures.value c.plan.ensures)
-
-pub returns-else-self-eq0-clause-reply : goal.returns-else-self-eq0-clause-reply
-returns-else-self-eq0-clause-reply g c =
-    sym c.in_ok-answer.was ∙ ap (λ (t : Turn PlayBook). t.reply) (asked-is c.args.tables.now c.args.here c.args.request c.args.self.now c.asked-turn.result c.rate-rate.result c.plan.result.now c.requires.planned c.asked-turn.ensures c.rate-rate.ensures.value c.plan.ensures)
+    let asked = asked-is c.args.tables.now c.args.here c.args.request old c.asked-turn.result c.rate-rate.result c.plan.result.now c.requires.planned c.asked-turn.ensures c.rate-rate.ensures.value c.plan.ensures in
+    let told = ap (λ (t : Turn PlayBook). t.reply) (sym asked) ∙ c.in_err-answer.was in
+    record {
+      book = sym (ask-refused (play_rate_at (seen c.args.tables.now old.path.device) old.book) old.path.device.mix.rate c.args.here c.args.request old.book c.in_err-answer.field-0.0 told);
+      reply = search rules;
+      device = refl;
+      refused = search rules;
+      moves = moves-nothing g.B.Feeder.kind g.B.Feeder.kept c.args.tables.now [] 0 old;
+    }

@@ -1,4 +1,5 @@
-use Rattle.std.proofs.Common.{◌≡◌, ◌+◌, sym, ap, ◌∙◌, subst, refl, length, take, arith, length-append, length-take}
+use Rattle.std.proofs.Common.{rules, ◌≡◌, ◌+◌, sym, ap, ◌∙◌, subst, refl, length, take, arith, length-append, length-take}
+use Rattle.std.proofs.lemmas.Grind.{common_steps}
 use Rattle.pcm_ring.specs.Ring.{Ring}
 use Rattle.pcm_desk.specs.declared.play_book.PlayBook.{PlayBook}
 use Rattle.pcm_plan.specs.Plans.{rate_in_plan}
@@ -10,7 +11,7 @@ use Rattle.pcm_desk.proofs.PlaySafe.{safe-accepting, undrained}
 use Rattle.pcm_sound.proofs.Slots.{accepts}
 use Rattle.pcm_desk.specs.PlaySafe.{PlayIsSafe}
 use Rattle.pcm_play.proofs.Held.{taking-held}
-use Rattle.pcm_play.proofs.Moving.{fill_of-accepting, within-accepting, moves-taking, takes-written}
+use Rattle.pcm_play.proofs.Moving.{fill_of-accepting, within-accepting, moves-nothing, moves-taking, takes-written}
 use Rattle.pcm_play.proofs.channel.PlayChannelOf.write.Goals as goal
 
 pub invariant_of-self : goal.invariant_of-self
@@ -34,10 +35,21 @@ invariant_of-self g c =
           (let size = old.serves.size in let fill = old.fill in omega (arith, count)) old.safe);
     }
 
-pub returns-clause-moves : goal.returns-clause-moves
-returns-clause-moves g c = λ filters.
-    let old = c.args.self.now in
-    let count = c.put.ensures.count in
-    let written = takes-written old c.args.here (length c.args.bytes.now) c.put.result c.write-turn.result c.in_ok-answer.answer c.write-turn.ensures c.in_ok-answer.was count in
-    moves-taking g.B.Feeder.kind g.B.Feeder.kept filters c.args.bytes.now c.args.here.mixed c.put.result old _ refl refl (ap (λ (ring : Ring). ring.bytes) c.put.ensures.kept) written.is
-    (omega (arith, count)) (let size = old.serves.size in omega (arith, count, size, old.safe.fragments.fits)) (undrained old.book.state written.more) (taking-held old.book.state written.more) old.within
+pub returns : goal.returns
+returns g c = record {
+  book = search rules;
+  reply = search rules;
+  device = refl;
+  refused = search rules;
+  moves = λ filters.
+      let old = c.args.self.now in
+      let count = c.put.ensures.count in
+      let written = takes-written old c.args.here (length c.args.bytes.now) c.put.result c.write-turn.result c.in_ok-answer.answer c.write-turn.ensures c.in_ok-answer.was count in
+      moves-taking g.B.Feeder.kind g.B.Feeder.kept filters c.args.bytes.now c.args.here.mixed c.put.result old _ refl refl (ap (λ (ring : Ring). ring.bytes) c.put.ensures.kept) written.is
+      (omega (arith, count)) (let size = old.serves.size in omega (arith, count, size, old.safe.fragments.fits)) (undrained old.book.state written.more) (taking-held old.book.state written.more) old.within;
+}
+
+pub returns-in_err-answer : goal.returns-in_err-answer
+returns-in_err-answer g c =
+    record { book = grind (arith, common_steps); reply = search rules; device = refl; refused = search rules; moves =
+    λ filters. moves-nothing g.B.Feeder.kind g.B.Feeder.kept filters c.args.bytes.now 0 c.args.self.now }

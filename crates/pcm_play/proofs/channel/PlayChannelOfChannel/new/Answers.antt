@@ -2,7 +2,7 @@ use Rattle.std.proofs.Common.{ap, ◌∙◌}
 use Rattle.pcm_desk.specs.declared.play_book.PlayBook.{PlayBook}
 use Rattle.pcm_desk.specs.declared.play_book.PlayState.TheVariants.{Free}
 use Rattle.pcm_play.proofs.Stands.{stands-empty}
-use Rattle.pcm_play.proofs.channel.PlayChannelOf.new.Goals as goal
+use Rattle.pcm_play.proofs.channel.PlayChannelOfChannel.new.Goals as goal
 
 pub returns : goal.returns
 returns g c =

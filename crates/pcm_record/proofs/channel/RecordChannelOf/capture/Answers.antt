@@ -1,4 +1,4 @@
-use Rattle.std.proofs.Common.{◌+◌, ◌*◌, ◌^◌, ◌<◌, ap, sym, subst, ◌∙◌, length, refl, arith}
+use Rattle.std.proofs.Common.{rules, ◌+◌, ◌*◌, ◌^◌, ◌<◌, ap, sym, subst, ◌∙◌, length, refl, arith}
 use Rattle.pcm_format.specs.Frames.{frame_bytes}
 use Rattle.pcm_format.specs.Layouts.{channels_of}
 use Rattle.pcm_path.proofs.Paths.{serves-as}
@@ -15,9 +15,6 @@ use Rattle.pcm_record.proofs.Held.{running-held}
 use Rattle.pcm_record.proofs.Moving.{device-is, moves-nothing, safe-at}
 use Rattle.pcm_record.proofs.Capturing.{book-captured, captured-at, fill-captured, given-most, kept-most, moves-captured, push-captured, pushed-count, pushed-is, rate-pushed}
 use Rattle.pcm_record.proofs.channel.RecordChannelOf.capture.Goals as goal
-
-pub returns-then-not-is_running-clause-moves : goal.returns-then-not-is_running-clause-moves
-returns-then-not-is_running-clause-moves g c = moves-nothing g.B.Feeder.kind g.B.Feeder.kept c.args.tables.now _ _ c.args.self.now
 
 pub push-requires-clause-tables : goal.push-requires-clause-tables
 push-requires-clause-tables g c =
@@ -71,28 +68,34 @@ invariant_of-self g c =
       safe = subst (λ (q : PlanSeen). RecordIsSafe (rate_in_plan q) new) (sym (c.push.ensures.plan ∙ planned.plan_is)) b.safe;
     }
 
-pub returns-clause-book : goal.returns-clause-book
-returns-clause-book g c =
-    let old = c.args.self.now in
-    let tables = c.args.tables.now in
-    let planned = c.requires.planned (running-held c.args.self.now.book.state (sym c.if-not-is_running.ensures)) in
-    let rate = rate-pushed tables old c.push.new.self c.rate-rate.result c.plan.result.now planned c.rate-rate.ensures.value c.plan.ensures c.push.ensures.plan in
-    captured-at (seen tables old.path.device) c.args.frames old.book c.captured-self.result c.rate-rate.result rate c.captured-self.ensures
+pub returns-then-not-is_running : goal.returns-then-not-is_running
+returns-then-not-is_running g c =
+    record { book = search rules; device = refl;
+    moves = (moves-nothing g.B.Feeder.kind g.B.Feeder.kept c.args.tables.now _ _ c.args.self.now) }
 
-pub returns-clause-moves : goal.returns-clause-moves
-returns-clause-moves g c =
-    let old = c.args.self.now in
-    let tables = c.args.tables.now in
-    let device = seen tables old.path.device in
-    let planned = c.requires.planned (running-held c.args.self.now.book.state (sym c.if-not-is_running.ensures)) in
-    let some = c.requires.stands in
-    let input = frames_of (channels_of old.path.device.settings.layout) c.args.input.now in
-    let rate = rate-pushed tables old c.push.new.self c.rate-rate.result c.plan.result.now planned c.rate-rate.ensures.value c.plan.ensures c.push.ensures.plan in
-    let all = pushed-is tables old c.args.input.now planned in
-    moves-captured g.B.Feeder.kind g.B.Feeder.kept tables old _ c.args.frames input c.push.result planned refl c.push.ensures.plan c.push.ensures.kinds
-    (ap length (sym all) ∙ pushed-count tables old c.args.frames c.args.input.now planned c.requires.whole)
-    (subst (HaveBits 32) all c.push.ensures.fits)
-    (book-captured device c.args.frames old.book c.captured-self.result (sym c.if-not-is_running.ensures) (safe-at tables old planned)
-    (captured-at (seen tables old.path.device) c.args.frames old.book c.captured-self.result c.rate-rate.result rate c.captured-self.ensures))
-    (λ bytes frames s. push-captured g.B.Feeder.kept tables old c.args.frames c.args.input.now c.push.new.self c.push.result c.push.new.ring.bytes bytes frames planned c.requires.whole c.push.ensures.kept
-    (c.push.ensures.pushes frames (s.records (running-held old.book.state (sym c.if-not-is_running.ensures)))) s)
+pub returns : goal.returns
+returns g c = record {
+  book = (
+      let old = c.args.self.now in
+      let tables = c.args.tables.now in
+      let planned = c.requires.planned (running-held c.args.self.now.book.state (sym c.if-not-is_running.ensures)) in
+      let rate = rate-pushed tables old c.push.new.self c.rate-rate.result c.plan.result.now planned c.rate-rate.ensures.value c.plan.ensures c.push.ensures.plan in
+      captured-at (seen tables old.path.device) c.args.frames old.book c.captured-self.result c.rate-rate.result rate c.captured-self.ensures);
+  device = refl;
+  moves = (
+      let old = c.args.self.now in
+      let tables = c.args.tables.now in
+      let device = seen tables old.path.device in
+      let planned = c.requires.planned (running-held c.args.self.now.book.state (sym c.if-not-is_running.ensures)) in
+      let some = c.requires.stands in
+      let input = frames_of (channels_of old.path.device.settings.layout) c.args.input.now in
+      let rate = rate-pushed tables old c.push.new.self c.rate-rate.result c.plan.result.now planned c.rate-rate.ensures.value c.plan.ensures c.push.ensures.plan in
+      let all = pushed-is tables old c.args.input.now planned in
+      moves-captured g.B.Feeder.kind g.B.Feeder.kept tables old _ c.args.frames input c.push.result planned refl c.push.ensures.plan c.push.ensures.kinds
+      (ap length (sym all) ∙ pushed-count tables old c.args.frames c.args.input.now planned c.requires.whole)
+      (subst (HaveBits 32) all c.push.ensures.fits)
+      (book-captured device c.args.frames old.book c.captured-self.result (sym c.if-not-is_running.ensures) (safe-at tables old planned)
+      (captured-at (seen tables old.path.device) c.args.frames old.book c.captured-self.result c.rate-rate.result rate c.captured-self.ensures))
+      (λ bytes frames s. push-captured g.B.Feeder.kept tables old c.args.frames c.args.input.now c.push.new.self c.push.result c.push.new.ring.bytes bytes frames planned c.requires.whole c.push.ensures.kept
+      (c.push.ensures.pushes frames (s.records (running-held old.book.state (sym c.if-not-is_running.ensures)))) s));
+}

@@ -22,10 +22,14 @@ invariant_of-self-clause-safe g c =
     subst (λ (p : PlanSeen). RecordIsSafe (rate_in_plan p) c.closed-self.result) (sym c.restart.ensures.plan)
     (subst (RecordIsSafe (rate_in_plan (plan_in old.path.chain))) (sym c.closed-self.ensures) (record-safe-closed (rate_in_plan (plan_in old.path.chain)) old.book old.safe))
 
-pub returns-clause-moves : goal.returns-clause-moves
-returns-clause-moves g c = λ filters.
-    let old = c.args.self.now in
-    let closed = c.closed-self.ensures in
-    moves-ended g.B.Feeder.kind g.B.Feeder.kept filters old _ c.restart.ensures.kinds (λ p used. absurd (let clash : true ≡ false = sym (ap (λ (b : RecordBook). is_unheld b.state) closed) ∙ used in cc))
-    (record { captured_none = ap (λ (b : RecordBook). b.captured) closed; kept_none = ap (λ (b : RecordBook). b.kept) closed; read_none = ap (λ (b : RecordBook). b.read) closed })
-    c.restart.ensures.empty
+pub returns : goal.returns
+returns g c = record {
+  book = c.closed-self.ensures;
+  device = c.restart.ensures.device;
+  moves = λ filters.
+      let old = c.args.self.now in
+      let closed = c.closed-self.ensures in
+      moves-ended g.B.Feeder.kind g.B.Feeder.kept filters old _ c.restart.ensures.kinds (λ p used. absurd (let clash : true ≡ false = sym (ap (λ (b : RecordBook). is_unheld b.state) closed) ∙ used in cc))
+      (record { captured_none = ap (λ (b : RecordBook). b.captured) closed; kept_none = ap (λ (b : RecordBook). b.kept) closed; read_none = ap (λ (b : RecordBook). b.read) closed })
+      c.restart.ensures.empty;
+}

@@ -1,4 +1,4 @@
-use Rattle.std.proofs.Common.{ap, sym, subst, ◌∙◌, length, refl}
+use Rattle.std.proofs.Common.{rules, [], ap, sym, subst, ◌∙◌, length, refl}
 use Rattle.pcm_path.proofs.Paths.{serves-as}
 use Rattle.pcm_plan.specs.Plans.{PlanSeen, rate_in_plan}
 use Rattle.pcm_desk.specs.declared.device.Device.{Device}
@@ -9,7 +9,7 @@ use Rattle.pcm_desk.specs.RecordSafe.{RecordIsSafe}
 use Rattle.pcm_desk.proofs.Refused.{record-ask-refused}
 use Rattle.pcm_sound.proofs.Recorded.{idle-unstarted}
 use Rattle.pcm_record.proofs.Held.{running-held}
-use Rattle.pcm_record.proofs.Moving.{book-asked, moves-ended, moves-read, none-waits, stays-fill, stays-reads}
+use Rattle.pcm_record.proofs.Moving.{book-asked, moves-ended, moves-nothing, moves-read, none-waits, stays-fill, stays-reads}
 use Rattle.pcm_record.proofs.channel.RecordChannelOf.ioctl.Goals as goal
 
 pub begin-requires : goal.begin-requires
@@ -44,23 +44,40 @@ invariant_of-self-else-not-is_running g c =
           (sym ((c.requires.planned (go.held (running-held new.state (sym c.if-not-is_running.ensures)))).plan_is ∙ ap (record_plan_between (seen c.args.tables.now old.path.device)) (sym go.settings))) left.safe;
     }
 
-pub returns-then-not-is_running-clause-moves : goal.returns-then-not-is_running-clause-moves
-returns-then-not-is_running-clause-moves g c =
-    let old = c.args.self.now in
-    let new = c.asked-turn.result.book in
-    let left = book-asked c.args.tables.now c.args.request old c.asked-turn.result c.requires.planned c.asked-turn.ensures in
-    moves-ended g.B.Feeder.kind g.B.Feeder.kept c.args.tables.now old _ c.begin.ensures.kinds
-    (λ p used. c.begin.ensures.planned)
-    (idle-unstarted new.state new (sym c.if-not-is_running.ensures) left.safe.order) c.begin.ensures.empty
+pub returns-then-not-is_running : goal.returns-then-not-is_running
+returns-then-not-is_running g c = record {
+  book = search rules;
+  reply = search rules;
+  device = c.begin.ensures.device;
+  refused = search rules;
+  moves = (
+      let old = c.args.self.now in
+      let new = c.asked-turn.result.book in
+      let left = book-asked c.args.tables.now c.args.request old c.asked-turn.result c.requires.planned c.asked-turn.ensures in
+      moves-ended g.B.Feeder.kind g.B.Feeder.kept c.args.tables.now old _ c.begin.ensures.kinds
+      (λ p used. c.begin.ensures.planned)
+      (idle-unstarted new.state new (sym c.if-not-is_running.ensures) left.safe.order) c.begin.ensures.empty);
+}
 
-pub returns-else-not-is_running-clause-moves : goal.returns-else-not-is_running-clause-moves
-returns-else-not-is_running-clause-moves g c =
-    let old = c.args.self.now in
-    let new = c.asked-turn.result.book in
-    let left = book-asked c.args.tables.now c.args.request old c.asked-turn.result c.requires.planned c.asked-turn.ensures in
-    moves-read g.B.Feeder.kind g.B.Feeder.kept c.args.tables.now 0 old _ refl refl refl (stays-reads old.book new (left.goes (sym c.if-not-is_running.ensures))) (left.goes (sym c.if-not-is_running.ensures)).held
+pub returns-else-not-is_running : goal.returns-else-not-is_running
+returns-else-not-is_running g c = record {
+  book = search rules;
+  reply = search rules;
+  device = refl;
+  refused = search rules;
+  moves = (
+      let old = c.args.self.now in
+      let new = c.asked-turn.result.book in
+      let left = book-asked c.args.tables.now c.args.request old c.asked-turn.result c.requires.planned c.asked-turn.ensures in
+      moves-read g.B.Feeder.kind g.B.Feeder.kept c.args.tables.now 0 old _ refl refl refl (stays-reads old.book new (left.goes (sym c.if-not-is_running.ensures))) (left.goes (sym c.if-not-is_running.ensures)).held);
+}
 
 -- what is refused leaves the book
-pub returns-in_err-answer-clause-book : goal.returns-in_err-answer-clause-book
-returns-in_err-answer-clause-book g c =
-    sym (record-ask-refused c.args.request c.args.self.now.book c.in_err-answer.field-0.0 (ap (λ (t : Turn RecordBook). t.reply) (sym c.asked-turn.ensures) ∙ c.in_err-answer.was))
+pub returns-in_err-answer : goal.returns-in_err-answer
+returns-in_err-answer g c = record {
+  book = sym (record-ask-refused c.args.request c.args.self.now.book c.in_err-answer.field-0.0 (ap (λ (t : Turn RecordBook). t.reply) (sym c.asked-turn.ensures) ∙ c.in_err-answer.was));
+  reply = search rules;
+  device = refl;
+  refused = search rules;
+  moves = moves-nothing g.B.Feeder.kind g.B.Feeder.kept c.args.tables.now [] 0 c.args.self.now;
+}

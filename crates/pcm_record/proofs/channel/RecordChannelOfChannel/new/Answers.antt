@@ -2,7 +2,7 @@ use Rattle.std.proofs.Common.{ap, ◌∙◌}
 use Rattle.pcm_desk.specs.declared.record_book.RecordBook.{RecordBook}
 use Rattle.pcm_desk.specs.declared.run_state.RunState.TheVariants.{Free}
 use Rattle.pcm_record.proofs.Stands.{stands-empty}
-use Rattle.pcm_record.proofs.channel.RecordChannelOf.new.Goals as goal
+use Rattle.pcm_record.proofs.channel.RecordChannelOfChannel.new.Goals as goal
 
 pub returns : goal.returns
 returns g c =

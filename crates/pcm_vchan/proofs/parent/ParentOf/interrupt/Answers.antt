@@ -25,12 +25,15 @@ roomy {filters = filters} {n = n} {old = old} some within due room =
     counted (seen filters old.device) old.mixed old.handed n due.bus.planned.limits some within (omega (arith, few)) (omega (arith, ring)) due.bus.level room
 
 -- as many are mixed as the parent's device needs
-bus-mixes : {B : Type 0} (filters : Filters) (n result : ℕ) (old : ParentOf B) → result ≡ mixed_by (seen filters old.bus.device) old.handed n → result ≡ mixed_in filters n old
+bus-mixes : {B : Type 0} (filters : Filters) (n result : ℕ) (old : ParentOf B)
+    → result ≡ mixed_by (seen filters old.bus.device) old.handed n → result ≡ mixed_in filters n old
 bus-mixes filters n result old is = is ∙ ap (λ (device : Device). mixed_by (seen filters device) old.handed n) old.bus_of
 
 -- what the bus leaves of channels, by the names that the parent has for its device and counts
-bus-leaves : {B X : Type 0} (leaves : Device → ℕ → ℕ → X → X → Type 0) (filters : Filters) (n result : ℕ) (here : Here) (old : ParentOf B) (before after : Fixed X) → here ≡ here_of old → result ≡ mixed_by (seen filters old.bus.device) old.handed n
-    → AreLeft (leaves old.bus.device here.mixed result) before after → AreLeft (leaves old.device old.mixed (mixed_in filters n old)) before after
+bus-leaves : {B X : Type 0} (leaves : Device → ℕ → ℕ → X → X → Type 0) (filters : Filters) (n result : ℕ) (here : Here) (old : ParentOf B)
+    (before after : Fixed X) → here ≡ here_of old → result ≡ mixed_by (seen filters old.bus.device) old.handed n
+    → AreLeft (leaves old.bus.device here.mixed result) before after
+    → AreLeft (leaves old.device old.mixed (mixed_in filters n old)) before after
 bus-leaves leaves filters n result here old before after at is left =
     subst (λ (device : Device). AreLeft (leaves device old.mixed (mixed_in filters n old)) before after) old.bus_of
     (subst (λ k. AreLeft (leaves old.bus.device k (mixed_in filters n old)) before after) (ap (λ (here : Here). here.mixed) at)
@@ -42,10 +45,17 @@ turn-mixed-requires-clause-due g c =
     let count : Device → ℕ = λ device. mixed_by (seen c.args.tables.now device) old.handed c.args.n in
     let mixed = ap (λ (here : Here). here.mixed) c.here-before.ensures in
     record {
-      count = omega (arith, mixed, bus-mixes c.args.tables.now c.args.n _ old refl, (roomy c.requires.some c.requires.within c.requires.due c.requires.counts).mixed_fit);
+      count = omega (
+        arith,
+        mixed,
+        bus-mixes c.args.tables.now c.args.n _ old refl,
+        (roomy c.requires.some c.requires.within c.requires.due c.requires.counts).mixed_fit,
+      );
       few = omega (arith, old.slots, old.maps_count, old.slots_within);
-      playing = subst (λ (device : Device). All (IsPlayDue g.B.Feeder.kind g.B.Feeder.kept c.args.tables.now device (count device)) (play_channels old)) (sym old.bus_of) c.requires.due.playing;
-      mapped = subst (λ (device : Device). All (IsMapDue g.B.Feeder.kind g.B.Feeder.kept c.args.tables.now device (count device)) (map_channels old)) (sym old.bus_of) c.requires.due.mapped;
+      playing = subst (λ (device : Device). All (IsPlayDue g.B.Feeder.kind g.B.Feeder.kept c.args.tables.now device (count device))
+          (play_channels old)) (sym old.bus_of) c.requires.due.playing;
+      mapped = subst (λ (device : Device). All (IsMapDue g.B.Feeder.kind g.B.Feeder.kept c.args.tables.now device (count device))
+          (map_channels old)) (sym old.bus_of) c.requires.due.mapped;
     }
 
 pub turn-mixed-requires-clause-handed : goal.turn-mixed-requires-clause-handed
@@ -59,20 +69,28 @@ pass-requires-clause-passed g c = (roomy c.requires.some c.requires.within c.req
 
 pub pass-requires-clause-mixed : goal.pass-requires-clause-mixed
 pass-requires-clause-mixed g c =
-    omega (arith, bus-mixes c.args.tables.now c.args.n _ c.args.self.now c.turn-mixed.ensures.count, (roomy c.requires.some c.requires.within c.requires.due c.requires.counts).mixed_fit)
+    omega (
+      arith,
+      bus-mixes c.args.tables.now c.args.n _ c.args.self.now c.turn-mixed.ensures.count,
+      (roomy c.requires.some c.requires.within c.requires.due c.requires.counts).mixed_fit,
+    )
 
 pub pass-requires-clause-due : goal.pass-requires-clause-due
 pass-requires-clause-due g c =
-    may-settle c.requires.due.playing (bus-leaves (PlayMixes g.B.Feeder.kind g.B.Feeder.kept c.args.tables.now) c.args.tables.now c.args.n _ _ c.args.self.now _ _ c.here-before.ensures c.turn-mixed.ensures.count c.turn-mixed.ensures.mixed)
+    may-settle c.requires.due.playing
+    (bus-leaves (PlayMixes g.B.Feeder.kind g.B.Feeder.kept c.args.tables.now) c.args.tables.now c.args.n _ _ c.args.self.now _ _
+    c.here-before.ensures c.turn-mixed.ensures.count c.turn-mixed.ensures.mixed)
 
 passed : (g : _) (c : goal.After-pass g) → Each (IsPassed g.B.Feeder.kind g.B.Feeder.kept c.args.tables.now c.args.self.now.device c.args.self.now.handed c.args.n (mixed_in c.args.tables.now c.args.n c.args.self.now))
     (play_channels c.args.self.now) (play_channels c.pass.new.self)
 passed g c =
     let old = c.args.self.now in
-    let m = bus-leaves (PlayMixes g.B.Feeder.kind g.B.Feeder.kept c.args.tables.now) c.args.tables.now c.args.n _ _ old _ _ c.here-before.ensures c.turn-mixed.ensures.count c.turn-mixed.ensures.mixed in
+    let m = bus-leaves (PlayMixes g.B.Feeder.kind g.B.Feeder.kept c.args.tables.now) c.args.tables.now c.args.n _ _ old _ _
+    c.here-before.ensures c.turn-mixed.ensures.count c.turn-mixed.ensures.mixed in
     let told : passed_for (unfiltered c.pass.new.self.device) c.pass.new.self.handed ≡ passed_for (unfiltered old.device) (old.handed + c.args.n) =
     ap (λ (device : Device). passed_for (unfiltered device) c.pass.new.self.handed) c.pass.ensures.device ∙ ap (passed_for (unfiltered old.device)) c.pass.ensures.handed in
-    all-passed old.handed c.args.n c.pass.new.self.channels refl c.requires.due.bus.level told c.requires.due.playing m c.pass.ensures.settled
+    all-passed old.handed c.args.n (here_of c.pass.new.self) c.pass.new.self.channels refl c.requires.due.bus.level told c.requires.due.playing m
+    c.pass.ensures.settled
 
 pub returns-clause-channels : goal.returns-clause-channels
 returns-clause-channels g c = λ slot other there. (passed g c slot other there).moves
@@ -82,23 +100,28 @@ returns-clause-books g c = λ slot other there. (passed g c slot other there).bo
 
 pub returns-clause-maps : goal.returns-clause-maps
 returns-clause-maps g c =
-    let t = bus-leaves (MapMixes g.B.Feeder.kind g.B.Feeder.kept c.args.tables.now) c.args.tables.now c.args.n _ _ c.args.self.now _ _ c.here-before.ensures c.turn-mixed.ensures.count c.turn-mixed.ensures.taken in
+    let t = bus-leaves (MapMixes g.B.Feeder.kind g.B.Feeder.kept c.args.tables.now) c.args.tables.now c.args.n _ _ c.args.self.now _ _
+    c.here-before.ensures c.turn-mixed.ensures.count c.turn-mixed.ensures.taken in
     rw c.pass.ensures.maps (λ slot other there. (t.each slot other there).plays)
 
 pub returns-clause-mixed : goal.returns-clause-mixed
-returns-clause-mixed g c = c.pass.ensures.mixed ∙ ap (λ frames. c.args.self.now.mixed + frames) (bus-mixes c.args.tables.now c.args.n _ c.args.self.now c.turn-mixed.ensures.count)
+returns-clause-mixed g c = c.pass.ensures.mixed
+    ∙ ap (λ frames. c.args.self.now.mixed + frames) (bus-mixes c.args.tables.now c.args.n _ c.args.self.now c.turn-mixed.ensures.count)
 
 pub returns-clause-turns : goal.returns-clause-turns
 returns-clause-turns g c =
     let old = c.args.self.now in
     let new = c.turn-mixed.new in
     rw (c.pass.ensures.bus, c.pass.ensures.ring)
-    (subst (λ (device : Device). TurnsBus g.B.Feeder.kept (seen c.args.tables.now device) old.handed c.args.n old.mixer (play_channels old) (map_channels old) old.bus.chain new.self.chain old.ring.bytes new.ring.bytes) old.bus_of c.turn-mixed.ensures.turns)
+    (subst (λ (device : Device). TurnsBus g.B.Feeder.kept (seen c.args.tables.now device) old.handed c.args.n old.mixer
+    (play_channels old) (map_channels old) old.bus.chain new.self.chain old.ring.bytes new.ring.bytes) old.bus_of
+    c.turn-mixed.ensures.turns)
 
 pub returns-clause-bus : goal.returns-clause-bus
 returns-clause-bus g c =
     let old = c.args.self.now in
-    let stands = subst (λ (device : Device). BusStands g.B.Feeder.kept (seen c.args.tables.now device) c.turn-mixed.new.self.chain (old.handed + c.args.n)) old.bus_of c.turn-mixed.ensures.stands in
+    let stands = subst (λ (device : Device). BusStands g.B.Feeder.kept (seen c.args.tables.now device) c.turn-mixed.new.self.chain
+    (old.handed + c.args.n)) old.bus_of c.turn-mixed.ensures.stands in
     let level = c.requires.due.bus.level in
     let mixed = c.pass.ensures.mixed in
     let handed = c.pass.ensures.handed in
@@ -106,7 +129,8 @@ returns-clause-bus g c =
     record {
       planned = rw c.pass.ensures.bus stands.planned;
       made = rw (c.pass.ensures.bus, handed) stands.made;
-      level = rw handed (omega (arith, mixed, count, mixed-behind (seen c.args.tables.now old.device) old.handed c.args.n stands.planned.limits, level));
+      level = rw handed (omega
+          (arith, mixed, count, mixed-behind (seen c.args.tables.now old.device) old.handed c.args.n stands.planned.limits, level));
     }
 
 pub invariant_of-self-clause-rates : goal.invariant_of-self-clause-rates

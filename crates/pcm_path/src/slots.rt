@@ -1,0 +1,52 @@
+//! What a slot of a device holds, whichever way its sound goes.
+
+use pcm_desk::Device;
+use pcm_feeder::{Feeder, RackOf, Tables};
+use pcm_format::Settings;
+use std::alloc::{AllocError, Global};
+
+/// What is made, if there is memory for it.
+pub type Made<T> = Result<T, AllocError>;
+
+/// A channel of one of the ways.
+pub trait Channel<B: Feeder>: Drop {
+    ghost use Rattle.std.specs.Prelude.{◌≡◌, Bool, true, IfOk};
+    ghost use Rattle.pcm_format.specs.declared.settings.Settings.{Settings};
+    ghost use Rattle.pcm_feeder.specs.Filters.{Filters};
+    ghost use Rattle.pcm_feeder.specs.Limits.{IsRate};
+    ghost use Rattle.pcm_feeder.specs.Racks.{IsRack};
+    ghost use Rattle.pcm_chain.specs.Chains.{HasRack};
+    ghost use Rattle.pcm_desk.specs.declared.device.Device.{Device};
+    ghost use Rattle.pcm_desk.specs.Device.{HasRates};
+    ghost use Rattle.pcm_path.specs.declared.path.PathOf.{PathOf};
+    ghost use Rattle.pcm_path.specs.Paths.{HasBoxes};
+
+    // The way of its sound, with its device.
+    ghost path: { Self → PathOf B };
+
+    ghost is_free: { Self → Bool };
+
+    // It is of a device, and nobody has opened it.
+    ghost is_unopened: { Filters → Device → Self → Type 0 };
+
+    // What an opening with these settings makes of it.
+    ghost begins: { Filters → Settings → Self → Self → Type 0 };
+
+    /// A channel of a device that nobody has opened. All its memory is taken here.
+    fn new(alloc: Global, device: Device, tables: &Tables, rack: RackOf<B>) -> Made<Self>
+        requires device { HasRates device }
+        requires kinds { IsRack B.kind rack }
+        ensures unopened { IfOk result (is_unopened tables.now device) }
+        ensures boxes { IfOk result (λ made. HasRack B.mark rack (path made).chain) };
+
+    /// Whether nobody has it.
+    fn is_free(&self) -> bool
+        ensures { result ≡ is_free self.now };
+
+    /// A new opening begins, whose sound goes through the plan of its settings.
+    fn begin(&mut self, tables: &Tables, settings: Settings)
+        requires rate { IsRate settings.rate }
+        requires kinds { HasBoxes B.kind (path self.old) }
+        requires free { is_free self.old ≡ true }
+        ensures { begins tables.now settings self.old self.new };
+}
