@@ -75,18 +75,18 @@ block-mixed {B = B} kept filters device n mixer channels maps slots count start 
     let d : DeviceSeen = seen filters device in
     let play : ℕ → ℕ → PlayBook → List ℤ → List ℤ = λ at slot book sum. turned d n (slot_gain mixer at) book (sources.played slot) sum in
     let give : ℕ → List ℕ → ℕ → MapBook → List ℤ
-        → List ℤ = λ first area slot book sum. map_turned d n (map_gains mixer first slot) book (sources.taken slot) area sum in
+    → List ℤ = λ first area slot book sum. map_turned d n (map_gains mixer first slot) book (sources.taken slot) area sum in
     let first : between ≡ mixed_onto d n (slot_gain mixer) (play_books_of channels) sources.played slots start =
     added-up (λ (channel : PlayChannelOf B). channel.book) (play_unopened d) (AddsTo kept filters device n) (map_gains mixer 0)
-        (λ slot. play slot slot) channels slots start between (omega arith)
+    (λ slot. play slot slot) channels slots start between (omega arith)
     (λ slot other old new there adds. adds (sources.played slot) (stand.playing slot other there)
     ∙ ap (λ at. play at slot (get_or channels slot other).book old) (zero-add slot)) playing in
     let second : sum ≡ mapped_onto d n (map_gains mixer (length channels)) (map_books_of maps) sources.taken sources.areas count between =
     added-up (λ (channel : MapChannelOf B). channel.book) (map_unopened d) (MapAddsTo kept filters device n) (map_gains mixer slots)
-        (λ slot. give (length channels) (sources.areas slot) slot) maps count between sum (omega arith)
+    (λ slot. give (length channels) (sources.areas slot) slot) maps count between sum (omega arith)
     (λ slot other old new there adds. let c = get_or maps slot other in let s = stand.mapped slot other there in
     adds (sources.taken slot) s.stands ∙ ap (λ first. give first (area_of c) slot c.book old) played
-        ∙ ap (λ area. give (length channels) area slot c.book old) s.area) mapping in
+    ∙ ap (λ area. give (length channels) area slot c.book old) s.area) mapping in
     ap (faded device.mix.layout (master_gain mixer)) (cc)
 
 -- an interrupt that mixes nothing makes an empty one
@@ -97,7 +97,7 @@ nothing-mixed {B = B} kept filters device n mixer channels maps sources none sta
     let d : DeviceSeen = seen filters device in
     let layout = device.mix.layout in
     let map_adds : (gain : Gain) (channel : MapChannelOf B) (bytes : List ℕ)
-        → [] ≡ map_turned d 0 gain channel.book bytes (area_of channel) [] = λ gain channel bytes.
+    → [] ≡ map_turned d 0 gain channel.book bytes (area_of channel) [] = λ gain channel bytes.
     let count : ℕ = map_giving 0 channel.book in
     sym (onto-nothing (bits_of device.mix.format) (count * channels_of layout)
     (faded layout gain (given_samples d (map_gain channel.book) channel.book.opening.settings

@@ -58,7 +58,7 @@ module _ (device : DeviceSeen) (samples : List ℤ) where
       let bits = bits_of (mix_settings device).format in
       let full : ℤ → ℤ = at_full bits in
       subst (HaveBits 32) raised-frames
-          (frames_of-bits 32 (channels_of (mix_settings device).layout) raised (All-map (FitsBits 32) full samples
+      (frames_of-bits 32 (channels_of (mix_settings device).layout) raised (All-map (FitsBits 32) full samples
       (All-weaker (FitsBits bits) (λ z. FitsBits 32 (full z))
       (λ z within. FitsBits-mul_pow bits z (bits_of-above (mix_settings device).format)
       (bits_of-within (mix_settings device).format) within) samples fits)))

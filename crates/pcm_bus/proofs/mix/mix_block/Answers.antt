@@ -39,8 +39,8 @@ returns-then-n-gt0-clause-block g c = λ sources stand.
     let silent = c.fill.ensures.after (λ y same. same) ∙ ap (λ k. replicate k (pos 0)) c.requires.sum in
     let slots : c.len-slots.result ≡ fixed_len c.args.channels.now = search rules in
     let second = subst (λ k. Added (MapAddsTo g.B.Feeder.kept c.args.tables.now c.args.device c.args.n) (map_gains c.args.mixer.now k)
-        (fixed_items c.args.maps.now) (fixed_len c.args.maps.now) c.mix_each.new.sum c.mix_each-then-n-gt0.new.sum) slots
-        c.mix_each-then-n-gt0.ensures.sum in
+    (fixed_items c.args.maps.now) (fixed_len c.args.maps.now) c.mix_each.new.sum c.mix_each-then-n-gt0.new.sum) slots
+    c.mix_each-then-n-gt0.ensures.sum in
     c.apply_gain.ensures ∙ ap (λ (gain : Gain). faded c.args.device.mix.layout gain c.mix_each-then-n-gt0.new.sum) c.master.ensures.value
     ∙ block-mixed g.B.Feeder.kept c.args.tables.now c.args.device c.args.n c.args.mixer.now (fixed_items c.args.channels.now)
     (fixed_items c.args.maps.now) (fixed_len c.args.channels.now)
@@ -88,6 +88,6 @@ returns-else-n-gt0-clause-block g c = λ sources stand.
     let channels = channels_of c.args.device.mix.layout in
     let none : c.args.n ≡ 0 = omega arith in
     c.fill.ensures.after (λ y same. same) ∙ ap (λ k. replicate k (pos 0)) c.requires.sum ∙ ap (λ n. replicate (n * channels) (pos 0)) none
-        ∙ ap (λ k. replicate k (pos 0)) (zero-mul channels)
+    ∙ ap (λ k. replicate k (pos 0)) (zero-mul channels)
     ∙ nothing-mixed g.B.Feeder.kept c.args.tables.now c.args.device c.args.n c.args.mixer.now (fixed_items c.args.channels.now)
     (fixed_items c.args.maps.now) sources none stand

@@ -18,7 +18,7 @@ loop-slot-preserved g c =
     let Leaves = g.C.Mixed.leaves c.args.tables.now c.args.device c.args.here.mixed c.args.n in
     let Adds = λ (gain : Gain). g.C.Mixed.adds c.args.tables.now c.args.device c.args.n gain c.loop-slot.sum c.mix_in.new.sum in
     let is : (other : _) → lent ≡ get_or before i other = λ other. c.index_mut.ensures.value ∙ get_or_default between i lent other there
-        ∙ c.loop-slot.invariant.rest i other (omega arith) in
+    ∙ c.loop-slot.invariant.rest i other (omega arith) in
     record {
       len = c.loop-slot.invariant.len;
       left = λ at other below. elim (cases_lt at i) [
@@ -27,7 +27,7 @@ loop-slot-preserved g c =
         | inr more ↦ (
             let here : i ≡ at = omega arith in
             subst (λ k. Leaves (get_or before k other) (get_or (set between i c.mix_in.new.self) k other)) here
-                (rw (get_or-set_same between i c.mix_in.new.self other there, ← is other) c.mix_in.ensures.left))
+            (rw (get_or-set_same between i c.mix_in.new.self other there, ← is other) c.mix_in.ensures.left))
       ];
       rest = λ at other above. get_or-set_other between i at c.mix_in.new.self other (omega arith)
           ∙ c.loop-slot.invariant.rest at other (omega arith);
@@ -37,9 +37,13 @@ loop-slot-preserved g c =
           c.loop-slot.invariant.sum,
           λ other.
               subst (Adds (map_gains c.args.mixer.now c.args.first i)) (is other)
-                  (subst (λ (gain : Gain). Adds gain lent) c.slot_gain-gain.ensures.value c.mix_in.ensures.adds),
+              (subst (λ (gain : Gain). Adds gain lent) c.slot_gain-gain.ensures.value c.mix_in.ensures.adds),
         ),
       );
-      block = record { frames_whole = omega (arith, c.mix_in.auto.frames, held.frames_whole); sum_whole =
-          omega (arith, c.mix_in.auto.sum, held.sum_whole); fits = c.mix_in.ensures.fits };
+      block = record {
+        frames_whole = omega (arith, c.mix_in.auto.frames, held.frames_whole);
+        sum_whole =
+            omega (arith, c.mix_in.auto.sum, held.sum_whole);
+        fits = c.mix_in.ensures.fits;
+      };
     }

@@ -57,5 +57,12 @@ returns-clause-full c =
     let width : c.args.n * c.frame_bytes.result ≡ size = ap (λ k. c.args.n * k) c.frame_bytes.ensures in
     let block : length (block_bytes c.args.settings c.args.block.now) ≡ size = sym (ap length c.spell_frames.ensures) ∙ omega (arith, c.spell_frames.auto.out, length-take (c.args.n * c.frame_bytes.result) c.args.bytes.now, width, c.requires.bytes) in
     ap length (returns-clause-ring c)
-        ∙ omega (arith, length-append (drop size c.args.ring.now.bytes)
-        (block_bytes c.args.settings c.args.block.now), length-drop size c.args.ring.now.bytes, block, c.requires.full, c.requires.within)
+    ∙ omega (
+      arith,
+      length-append (drop size c.args.ring.now.bytes)
+          (block_bytes c.args.settings c.args.block.now),
+      length-drop size c.args.ring.now.bytes,
+      block,
+      c.requires.full,
+      c.requires.within,
+    )

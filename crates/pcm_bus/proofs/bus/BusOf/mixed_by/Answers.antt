@@ -14,9 +14,11 @@ needs g c =
     let planned = c.requires.planned in
     let plan = c.plan-plan.ensures ∙ planned.plan_is in
     let later = c.need.ensures ∙ ap (λ (p : PlanSeen). need (rate_in_plan p) (handed + c.args.n)) plan in
-    let before = c.need-2.ensures ∙ ap (λ (p : PlanSeen). need (rate_in_plan p) handed) plan in
-    (omega (arith, later, before, mixed-grows device handed (handed + c.args.n) planned.limits (omega arith)), omega
-    (arith, later, before, mix-within device handed c.args.n planned.limits c.requires.within))
+    let before = c.need-2.ensures ∙ ap (λ (p : PlanSeen). need (rate_in_plan p) handed) plan in (
+      omega (arith, later, before, mixed-grows device handed (handed + c.args.n) planned.limits (omega arith)),
+      omega
+          (arith, later, before, mix-within device handed c.args.n planned.limits c.requires.within),
+    )
 
 pub overflow_sub-result : goal.overflow_sub-result
 overflow_sub-result g c = (needs g c).0

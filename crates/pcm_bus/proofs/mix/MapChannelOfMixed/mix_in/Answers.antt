@@ -11,9 +11,12 @@ pub returns-clause-left : goal.returns-clause-left
 returns-clause-left g c =
     let old = c.args.self.now in
     let book = subst (λ (device : Device). c.refill.new.self.book ≡ map_mixing (seen c.args.tables.now device) c.args.n old.book)
-        c.requires.due.own c.refill.ensures.book in
-    record { own = c.refill.ensures.device
-        ∙ c.requires.due.own; plays = record { book = book; moves = c.refill.ensures.moves; area = c.refill.ensures.area } }
+    c.requires.due.own c.refill.ensures.book in
+    record {
+      own = c.refill.ensures.device
+          ∙ c.requires.due.own;
+      plays = record { book = book; moves = c.refill.ensures.moves; area = c.refill.ensures.area };
+    }
 
 pub returns-clause-adds : goal.returns-clause-adds
 returns-clause-adds g c =

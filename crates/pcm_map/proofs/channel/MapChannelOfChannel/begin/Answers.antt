@@ -15,7 +15,7 @@ returns g c =
     let old = c.args.self.now in
     let new = c.begun-self.result in
     let opens : silences old.book new ≡ true =
-        ap (λ free. (free && not (is_unheld new.state)) || is_recut old.book.opening new.opening) c.requires.free
+    ap (λ free. (free && not (is_unheld new.state)) || is_recut old.book.opening new.opening) c.requires.free
     ∙ ap (λ (b : MapBook). not (is_unheld b.state) || is_recut old.book.opening new.opening) begun in
     record {
       device_same = c.begin_run.ensures.device;

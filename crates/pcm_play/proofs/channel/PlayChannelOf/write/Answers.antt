@@ -51,5 +51,11 @@ returns g c = record {
 
 pub returns-in_err-answer : goal.returns-in_err-answer
 returns-in_err-answer g c =
-    record { book = grind (arith, common_steps); reply = search rules; device = refl; refused = search rules; moves =
-    λ filters. moves-nothing g.B.Feeder.kind g.B.Feeder.kept filters c.args.bytes.now 0 c.args.self.now }
+    record {
+      book = grind (arith, common_steps);
+      reply = search rules;
+      device = refl;
+      refused = search rules;
+      moves =
+          λ filters. moves-nothing g.B.Feeder.kind g.B.Feeder.kept filters c.args.bytes.now 0 c.args.self.now;
+    }

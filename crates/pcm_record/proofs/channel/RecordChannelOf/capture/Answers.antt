@@ -70,8 +70,11 @@ invariant_of-self g c =
 
 pub returns-then-not-is_running : goal.returns-then-not-is_running
 returns-then-not-is_running g c =
-    record { book = search rules; device = refl;
-    moves = (moves-nothing g.B.Feeder.kind g.B.Feeder.kept c.args.tables.now _ _ c.args.self.now) }
+    record {
+      book = search rules;
+      device = refl;
+      moves = (moves-nothing g.B.Feeder.kind g.B.Feeder.kept c.args.tables.now _ _ c.args.self.now);
+    }
 
 pub returns : goal.returns
 returns g c = record {
