@@ -9,7 +9,7 @@ use Rattle.pcm_oss.specs.declared.event.Event.TheVariants.{Open, StartGroup, Mix
 use Rattle.pcm_oss.specs.declared.event.Way.{Way}
 use Rattle.pcm_oss.specs.declared.reply.Answer.{Answer}
 use Rattle.pcm_oss.specs.declared.reply.Errno.{Errno}
-use Rattle.pcm_oss.specs.declared.reply.Errno.TheVariants.{Busy, Exist}
+use Rattle.pcm_oss.specs.declared.reply.Errno.TheVariants.{BadF, Busy, Exist}
 use Rattle.pcm_group.proofs.Members.{used-some}
 use Rattle.pcm_desk.specs.declared.device.Held.{Held}
 use Rattle.pcm_desk.specs.Device.{DeviceSeen}
@@ -58,15 +58,15 @@ exists device desk fd way settings held e = record { own = refl; answer = refl; 
 keeps : (device : DeviceSeen) (event : Event) (desk : Desk) (fd other : ℕ) (held : Held) → descriptor_of event ≡ Some fd → other ≢ fd → held_by (channel_turn device desk event (Some held)).desk other ≡ held_by desk other
 keeps device event desk fd other held n differ = grind (arith, get_or-set_other)
 
+-- an event that is refused changes nothing, whatever the descriptor holds
+refuses : (device : DeviceSeen) (desk : Desk) (event : Event) (fd : ℕ) (turn : DeskTurn) → turn.desk ≡ desk → ((held : Held) → held_by desk fd ≡ Some held → GoesAlone device event desk turn.desk turn.reply fd held)
+    → GoesByDescriptor device event desk turn.desk turn.reply fd
+refuses device desk event fd turn same goes = grind arith
+
 -- an event of a channel goes by its descriptor
 turned : (device : DeviceSeen) (event : Event) (desk : Desk) (fd : ℕ) (found : Option Held) → HoldApart desk → descriptor_of event ≡ Some fd → held_by desk fd ≡ found
     → let turn : DeskTurn = channel_turn device desk event found in GoesByDescriptor device event desk turn.desk turn.reply fd
-turned device event desk fd None h n e = record {
-  opened = λ held is. (let clash : None ≡ Some held = sym e ∙ is in cc);
-  shut = λ _. record { others = λ other there differ. refl; groups = refl };
-  holds = λ other differ. refl;
-  strangers = λ other theirs differ m. refl;
-}
+turned device event desk fd None h n e = refuses device desk event fd (refusing desk BadF) refl (λ held is. let clash : None ≡ Some held = sym e ∙ is in cc)
 turned device event desk fd (Some held) h n e = record {
   opened = λ mine is. subst (λ (c : Held). GoesAlone device event desk (channel_turn device desk event (Some held)).desk (channel_turn device desk event (Some held)).reply fd c) (same mine is) (alone device event desk fd held h n e);
   shut = λ none. (let clash : None ≡ Some held = sym none ∙ e in cc);
@@ -86,16 +86,6 @@ taken_there desk fd mine other there differ = grind (arith, get_or-set_same)
 -- no descriptor holds a slot that an open takes
 untaken : (device : DeviceSeen) (desk : Desk) (other : ℕ) (theirs held : Held) → HoldApart desk → may_be_held (channel_at device desk held) ≡ false → held_by desk other ≡ Some theirs → theirs ≢ held
 untaken device desk other theirs held h free e same = let clash : false ≡ true = sym free ∙ ap (λ (c : Held). may_be_held (channel_at device desk c)) (sym same) ∙ h.taken other theirs device e in cc
-
--- an open that is refused changes nothing, whatever the descriptor holds
-refuses : (device : DeviceSeen) (desk : Desk) (event : Event) (fd : ℕ) (turn : DeskTurn) → turn.desk ≡ desk → ((held : Held) → held_by desk fd ≡ Some held → GoesAlone device event desk turn.desk turn.reply fd held)
-    → GoesByDescriptor device event desk turn.desk turn.reply fd
-refuses device desk event fd turn same goes = record {
-  opened = goes;
-  shut = λ none. record { others = λ other there differ. ap (λ (d : Desk). channel_at device d other) same; groups = ap (λ (d : Desk). d.groups) same };
-  holds = λ other differ. ap (λ (d : Desk). held_by d other) same;
-  strangers = λ other theirs differ m. ap (λ (d : Desk). channel_at device d theirs) same;
-}
 
 -- and one that is accepted begins the channel at the slot that it takes
 takes : (device : DeviceSeen) (desk : Desk) (event : Event) (fd : ℕ) (way : Way) (settings : Settings) (slot : ℕ) (reply : Result Answer Errno) → HoldApart desk → held_by desk fd ≡ None → least_free desk way ≡ Some slot
@@ -147,7 +137,7 @@ other-waits device desk group held some differ = let b = is-other (group_of desk
 starts_together : (device : DeviceSeen) (held : Option Held) (desk : Desk) (group : ℕ) → let turn : DeskTurn = start_on device held desk group in StartsTogether device group desk turn.desk turn.reply
 starts_together device held desk group =
     by-starting device (λ (t : DeskTurn). StartsTogether device group desk t.desk t.reply) held desk group
-    (λ errno. record { members = λ mine is. tt; groups = tt; refused = refl; others = λ mine differ. refl; passes = λ fd. refl })
+    (λ errno. grind arith)
     (λ used ready. let some : 0 < group = used-some desk.groups group used in record {
       members = λ mine is. member_starts device desk group mine some is;
       groups = refl;

@@ -43,16 +43,11 @@ pub euclid-floor : (z : ℤ) (d : ℕ) → int_div_euclid z (pos d) ≡ floor_di
 euclid-floor z d = grind arith
 
 fits-below : (z : ℤ) (k : ℕ) → k < 2 ^ 100 → (z ≡ pos k) ⊎ (z ≡ (pos 0 -ℤ pos k)) → FitsSigned w128 z
-fits-below (pos n) k few is = record { sfits = elim is [ inl up ↦ omega (arith, ints, up, few) | inr down ↦ omega (arith, ints, down, few) ] }
-fits-below (negsuc n) k few is = record { sfits = elim is [ inl up ↦ omega (arith, ints, up, few) | inr down ↦ omega (arith, ints, down, few) ] }
+fits-below z k few is = record { sfits = grind (arith, ints) }
 
 -- what the device has been given past its ring fits, or what is short of it
 pub fits-gap : (a b : ℕ) → a < 2 ^ 64 → b < 2 ^ 32 → FitsSigned w128 (pos a -ℤ pos b)
-fits-gap a b few small =
-    elim (cases_lt a b) [
-      | inl below ↦ fits-below (pos a -ℤ pos b) (b - a) (omega (arith, small)) (inr (omega (arith, ints, below)))
-      | inr past ↦ fits-below (pos a -ℤ pos b) (a - b) (omega (arith, few)) (inl (omega (arith, ints, past)))
-    ]
+fits-gap a b few small = let split = cases_lt a b in record { sfits = grind (arith, ints) }
 
 -- and so does its product with a rate
 pub fits-product : (a b m : ℕ) → a < 2 ^ 64 → b < 2 ^ 32 → m ≤ 192000 → FitsSigned w128 ((pos a -ℤ pos b) *ℤ pos m)
@@ -71,10 +66,7 @@ fits-product a b m few small rate =
     ]
   where
     down : (k m : ℕ) → ((pos 0 -ℤ pos k) *ℤ pos m) ≡ (pos 0 -ℤ pos (k * m))
-    down zero m = omega (arith, ints)
-    down (suc j) m =
-        let gap : (pos 0 -ℤ pos (suc j)) ≡ negsuc j = omega (arith, ints) in
-        ap (λ z. z *ℤ pos m) gap ∙ omega (arith, ints)
+    down k m = grind (arith, ints)
 
 -- the quotient has room in 64 bits, since it is no more than was mixed
 pub fits-passed : (device : DeviceSeen) (handed : ℕ) → passed_for device handed ≤ℤ pos (2 ^ 62) → ring_frames device < 2 ^ 32 → IsRate (mix_settings device).rate → IsRate (device_settings device).rate → FitsSigned w64 (passed_for device handed)
