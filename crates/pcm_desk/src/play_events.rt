@@ -280,6 +280,7 @@ impl PlayBook {
     }
 
     /// How many of `n` frames the book gives to the mix.
+    #[inline(always)]
     pub fn giving(&self, rate: Rate, n: u64) -> u64
         requires { IsRatio rate }
         ensures value { result ≡ giving rate n self.now }
@@ -308,7 +309,8 @@ impl PlayBook {
         }
     }
 
-    // The frames of an interrupt leave the ring and go into the mix.
+    // The frames of an interrupt leave the ring and go into the mix. Its caller counts the frames, too: in one place they are counted once.
+    #[inline(always)]
     fn gives(self, rate: Rate, mixed: u64, n: u64) -> PlayBook
         requires { CanRefill rate mixed n self }
         ensures { result ≡ gives rate mixed n self }
