@@ -1,9 +1,27 @@
 -- A section over interleaved samples: what each channel adds, and which samples are turned.
-use Rattle.std.specs.Prelude.{◌≡◌, ◌<◌, ◌≤◌, ◌⊎◌, ◌+◌, ◌*◌, ◌/◌, ℕ, ℤ, pos, ◌+ℤ◌, List, length, slice_index_or}
+use Rattle.std.specs.Prelude.{◌≡◌, ◌<◌, ◌≤◌, ◌⊎◌, ◌+◌, ◌*◌, ◌/◌, ◌%◌, ℕ, ℤ, pos, ◌+ℤ◌, List, length, slice_index_or}
+use Rattle.pcm_format.specs.Frames.{Frame}
 use Rattle.pcm_feeder.specs.declared.section.Section.{Section}
+use Rattle.pcm_feeder.specs.Limits.{IsSection}
 use Rattle.pcm_feeder.specs.Sections.{weighed}
+use Rattle.pcm_feeder.specs.Streams.{interleaved}
 use Rattle.feed_eq.specs.declared.lane.Lane.{Lane}
 use Rattle.feed_eq.specs.Added.{added}
+
+-- samples are whole frames
+pub record AreWholeFrames (channels : ℕ) (samples : List ℤ) : Type 0 where
+  pub some : 0 < channels
+  pub whole : length samples % channels ≡ 0
+
+-- samples become those of frames, as many as before
+pub record BecomeFrames (frames : List Frame) (old new : List ℤ) : Type 0 where
+  pub len : length new ≡ length old
+  pub samples : new ≡ interleaved frames
+
+-- the channels of frames before one can be put through a section
+pub record CanPass (section : Section) (channels to : ℕ) : Type 0 where
+  pub limits : IsSection section
+  pub there : to ≤ channels
 
 -- the sample of a channel in frame k
 abbrev pub sample_in : ℕ → List ℤ → ℕ → ℕ → ℤ

@@ -3,7 +3,7 @@
 ghost use Rattle.std.specs.Prelude.{◌≡◌, ◌≤◌, ◌+◌, ◌*◌, ◌%◌, length, replicate, All};
 ghost use Rattle.pcm_feeder.specs.Limits.{AreChannels, IsSection};
 ghost use Rattle.pcm_feeder.specs.Sections.{sections_on, past_behind};
-ghost use Rattle.pcm_feeder.specs.Streams.{frames_of, interleaved, silence};
+ghost use Rattle.pcm_feeder.specs.Streams.{frames_of, silence};
 ghost use Rattle.feed_eq.specs.Pairs.{IsPair};
 
 use crate::pass::pass;
@@ -23,12 +23,12 @@ pub struct Equaliser {
 }
 
 impl Equaliser {
-    ghost use Rattle.feed_eq.specs.Equalisers.{tail_of};
+    ghost use Rattle.feed_eq.specs.Lanes.{BecomeFrames};
+    ghost use Rattle.feed_eq.specs.Equalisers.{tail_of, CanEqualise, KeepsFit};
 
     /// At the begin of a stream.
     pub fn silent(channels: usize, sections: usize) -> Equaliser
-        requires limits { AreChannels channels }
-        requires few { sections ≤ 4 }
+        requires { CanEqualise channels sections }
         ensures channels { result.channels ≡ channels }
         ensures sections { result.sections ≡ sections }
         ensures silence { tail_of result ≡ replicate (2 + 2 * sections) (silence channels) }
@@ -46,13 +46,11 @@ impl Equaliser {
         requires sections { All IsSection sections.now }
         requires count { length sections.now ≡ self.old.sections }
         requires whole_frames { length samples.old % self.old.channels ≡ 0 }
-        ensures channels { self.new.channels ≡ self.old.channels }
-        ensures sections { self.new.sections ≡ self.old.sections }
+        ensures fit { KeepsFit self.old self.new }
         ensures kept { tail_of self.new ≡ past_behind self.old.channels sections.now
             (tail_of self.old) (frames_of self.old.channels samples.old) }
-        ensures len { length samples.new ≡ length samples.old }
-        ensures samples { samples.new ≡ interleaved (sections_on self.old.channels sections.now
-            (tail_of self.old) (frames_of self.old.channels samples.old)) }
+        ensures made { BecomeFrames (sections_on self.old.channels sections.now (tail_of self.old)
+            (frames_of self.old.channels samples.old)) samples.old samples.new }
     {
         let (channels, mut lasts) = (self.channels, self.lasts);
         let frames = samples.len() / channels;

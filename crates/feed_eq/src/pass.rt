@@ -1,10 +1,10 @@
 //! Interleaved samples through a section, in their place.
 
-ghost use Rattle.std.specs.Prelude.{◌≡◌, ◌<◌, ◌≤◌, ◌+◌, ◌*◌, ◌/◌, ◌%◌, ℤ, List, length};
+ghost use Rattle.std.specs.Prelude.{◌≡◌, ◌+◌, ◌*◌, ◌/◌, ℤ, List, length};
 ghost use Rattle.pcm_feeder.specs.Limits.{IsSection};
 ghost use Rattle.pcm_feeder.specs.Sections.{section_on};
-ghost use Rattle.pcm_feeder.specs.Streams.{frames_of, interleaved};
-ghost use Rattle.feed_eq.specs.Lanes.{HoldsChannels, IsLaneAt, IsPassed, PutsChannels};
+ghost use Rattle.pcm_feeder.specs.Streams.{frames_of};
+ghost use Rattle.feed_eq.specs.Lanes.{AreWholeFrames, BecomeFrames, CanPass, HoldsChannels, IsLaneAt, IsPassed, PutsChannels};
 
 use crate::lane::Lane;
 use pcm_feeder::Section;
@@ -12,14 +12,11 @@ use pcm_feeder::Section;
 /// Puts samples through a section, after the last two frames of its input and of its outputs.
 pub fn pass(section: Section, channels: usize, input: &[i32], output: &[i32], samples: &mut [i32])
     requires section { IsSection section }
-    requires some { 0 < channels }
     requires input { length input.now ≡ 2 * channels }
     requires output { length output.now ≡ 2 * channels }
-    requires whole_frames { length samples.old % channels ≡ 0 }
-    ensures len { length samples.new ≡ length samples.old }
-    ensures samples { samples.new ≡ interleaved (section_on channels section
-        (frames_of channels input.now) (frames_of channels output.now)
-        (frames_of channels samples.old)) }
+    requires whole_frames { AreWholeFrames channels samples.old }
+    ensures { BecomeFrames (section_on channels section (frames_of channels input.now)
+        (frames_of channels output.now) (frames_of channels samples.old)) samples.old samples.new }
 {
     let mut channel = 0;
     while channel + 2 <= channels {
@@ -44,8 +41,7 @@ fn pass_two(
     channel: usize,
     samples: &mut [i32],
 )
-    requires section { IsSection section }
-    requires there { channel + 2 ≤ channels }
+    requires { CanPass section channels (channel + 2) }
     ensures len { length samples.new ≡ length samples.old }
     ensures puts { (x y : List ℤ) → IsPassed section channels (length samples.old / channels) x y
         → IsLaneAt section channels x y 0 channel left
@@ -67,8 +63,7 @@ fn pass_two(
 
 // Puts a channel through.
 fn pass_one(section: Section, lane: Lane, channels: usize, channel: usize, samples: &mut [i32])
-    requires section { IsSection section }
-    requires there { channel < channels }
+    requires { CanPass section channels (channel + 1) }
     ensures len { length samples.new ≡ length samples.old }
     ensures puts { (x y : List ℤ) → IsPassed section channels (length samples.old / channels) x y
         → IsLaneAt section channels x y 0 channel lane

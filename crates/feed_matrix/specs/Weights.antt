@@ -12,6 +12,11 @@ use Rattle.pcm_feeder.specs.Sums.{sum_of}
 abbrev pub row_of : Layout → Layout → Position → List ℕ
 row_of from to target = map (weight to target) (positions_of from)
 
+-- a number is a weight, which is no more than one
+pub record IsWeight (to : Layout) (target source : Position) (found : ℕ) : Type 0 where
+  pub value : found ≡ weight to target source
+  pub limit : found ≤ 65536
+
 -- no weight is above one
 abbrev pub AreAtMostOne : List ℕ → Type 0
 AreAtMostOne row = All (λ weight. weight ≤ 65536) row

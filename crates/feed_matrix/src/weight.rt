@@ -3,8 +3,7 @@
 ghost use Rattle.std.specs.Prelude.{◌≡◌, ◌≤◌, take, All};
 ghost use Rattle.pcm_format.specs.Layouts.{channels_of};
 ghost use Rattle.pcm_format.specs.declared.layout.Layout.TheVariants as layouts;
-ghost use Rattle.pcm_feeder.specs.Layouts.{weight};
-ghost use Rattle.feed_matrix.specs.Weights.{row_of, AreWeights};
+ghost use Rattle.feed_matrix.specs.Weights.{row_of, AreWeights, IsWeight};
 
 use pcm_format::{Layout, Position};
 
@@ -34,8 +33,7 @@ fn row(from: Layout, to: Layout, target: Position) -> [u32; 8]
 // The weight with which sound goes to a position of a layout, where 65536 is one. Sound of positions
 // that two, four or six lack goes to others or nowhere, and all else as to eight.
 fn weight(to: Layout, target: Position, source: Position) -> u32
-    ensures value { result ≡ weight to target source }
-    ensures limit { result ≤ 65536 }
+    ensures { IsWeight to target source result }
 {
     match (to, target, source) {
         (Layout::One, _, _) => to_one(target, source),
@@ -52,8 +50,7 @@ fn weight(to: Layout, target: Position, source: Position) -> u32
 }
 
 fn to_one(target: Position, source: Position) -> u32
-    ensures value { result ≡ weight layouts.One target source }
-    ensures limit { result ≤ 65536 }
+    ensures { IsWeight layouts.One target source result }
 {
     match (target, source) {
         (Position::M, Position::M) => 65536,
@@ -66,8 +63,7 @@ fn to_one(target: Position, source: Position) -> u32
 
 // Every position goes to itself, and mono to both sides of the front.
 fn to_eight(target: Position, source: Position) -> u32
-    ensures value { result ≡ weight layouts.Eight target source }
-    ensures limit { result ≤ 65536 }
+    ensures { IsWeight layouts.Eight target source result }
 {
     match (target, source) {
         (Position::FL, Position::M | Position::FL) => 65536,

@@ -4,6 +4,9 @@ use Rattle.std.specs.List.{range_with_len}
 use Rattle.std.proofs.lemmas.List.{get_or-map}
 use Rattle.std.proofs.lemmas.List.Sums.{fold-append}
 use Rattle.pcm_feeder.specs.declared.stage.Gain.{Gain}
+use Rattle.pcm_desk.specs.declared.device.Device.{Device}
+use Rattle.pcm_desk.specs.declared.map_book.MapBook.{MapBook}
+use Rattle.pcm_desk.specs.declared.play_book.PlayBook.{PlayBook}
 use Rattle.pcm_feeder.specs.Filters.{Filters}
 use Rattle.pcm_feeder.specs.Kept.{Kept}
 use Rattle.pcm_feeder.specs.Fades.{faded}
@@ -13,9 +16,6 @@ use Rattle.pcm_format.specs.Layouts.{channels_of}
 use Rattle.pcm_format.proofs.Ranges.{range-add}
 use Rattle.pcm_mix.specs.Mix.{mixed}
 use Rattle.pcm_mixdev.specs.Mixers.{Levels, master_gain, slot_gain}
-use Rattle.pcm_desk.specs.declared.play_book.PlayBook.{PlayBook}
-use Rattle.pcm_desk.specs.declared.map_book.MapBook.{MapBook}
-use Rattle.pcm_desk.specs.declared.device.Device.{Device}
 use Rattle.pcm_desk.specs.Device.{DeviceSeen, seen}
 use Rattle.pcm_desk.specs.Desk.{map_unopened, play_unopened}
 use Rattle.pcm_sound.specs.Gains.{map_gain}

@@ -3,18 +3,18 @@ use Rattle.std.specs.Prelude.{◌≡◌, ℕ, zero, suc, ◌+◌, ◌*◌, List,
 use Rattle.std.specs.List.{flat_map, range_with_len}
 use Rattle.pcm_sequence.specs.declared.fixed.Fixed.{Fixed}
 use Rattle.pcm_sequence.specs.Fixed.{fixed_items}
+use Rattle.pcm_format.specs.declared.settings.Settings.{Settings}
 use Rattle.pcm_feeder.specs.declared.stage.Gain.{Gain}
+use Rattle.pcm_desk.specs.declared.device.Device.{Device}
+use Rattle.pcm_desk.specs.declared.map_book.MapBook.{MapBook}
+use Rattle.pcm_desk.specs.declared.play_book.PlayBook.{PlayBook}
 use Rattle.pcm_feeder.specs.Filters.{Filters}
 use Rattle.pcm_feeder.specs.Kept.{Kept}
-use Rattle.pcm_format.specs.declared.settings.Settings.{Settings}
 use Rattle.pcm_format.specs.Frames.{frame_bytes}
 use Rattle.pcm_format.specs.Layouts.{channels_of}
 use Rattle.pcm_format.specs.Samples.{spelled}
 use Rattle.pcm_feeder.specs.Fades.{faded}
 use Rattle.pcm_mixdev.specs.Mixers.{Levels, master_gain, slot_gain}
-use Rattle.pcm_desk.specs.declared.play_book.PlayBook.{PlayBook}
-use Rattle.pcm_desk.specs.declared.map_book.MapBook.{MapBook}
-use Rattle.pcm_desk.specs.declared.device.Device.{Device}
 use Rattle.pcm_desk.specs.Device.{DeviceSeen, device_settings, mix_settings, ring_frames, seen}
 use Rattle.pcm_desk.specs.Desk.{map_unopened, play_unopened}
 use Rattle.pcm_sound.specs.Added.{map_turned, turned}

@@ -1,19 +1,30 @@
 -- What an interrupt makes of a bus and of the device's ring.
-use Rattle.std.specs.Prelude.{◌≡◌, ℕ, ◌+◌, ◌*◌, ℤ, List, ◌++◌, length}
+use Rattle.std.specs.Prelude.{◌≡◌, ℕ, ◌+◌, ◌*◌, ◌≤◌, ℤ, List, ◌++◌, length}
 use Rattle.pcm_format.specs.Frames.{Frame, frame_bytes}
 use Rattle.pcm_ring.specs.Ring.{Ring}
+use Rattle.pcm_feeder.specs.declared.kind.Kind.{Kind}
+use Rattle.pcm_desk.specs.declared.device.Device.{Device}
 use Rattle.pcm_feeder.specs.Kept.{Kept}
+use Rattle.pcm_feeder.specs.declared.rack.RackOf.{RackOf}
+use Rattle.pcm_feeder.specs.Racks.{IsRack}
 use Rattle.pcm_feeder.specs.Streams.{interleaved}
 use Rattle.pcm_plan.specs.Through.{recs}
 use Rattle.pcm_chain.specs.declared.chain.ChainOf.{ChainOf}
 use Rattle.pcm_mixdev.specs.Mixers.{Levels}
-use Rattle.pcm_desk.specs.declared.device.Device.{Device}
+use Rattle.pcm_desk.specs.declared.limits.TheConstants.{MIX_FRAMES, RING_FRAMES}
 use Rattle.pcm_desk.specs.Channels.{mixed_by}
-use Rattle.pcm_desk.specs.Device.{DeviceSeen, device_settings, device_filters, parent_plan}
+use Rattle.pcm_desk.specs.Device.{DeviceSeen, device_settings, device_filters, mix_frames, parent_plan, unfiltered, HasRates}
 use Rattle.pcm_play.specs.declared.channel.PlayChannelOf.{PlayChannelOf}
 use Rattle.pcm_map.specs.declared.channel.MapChannelOf.{MapChannelOf}
 use Rattle.pcm_bus.specs.Blocks.{AllStand, Sources, turned_ring, whole_block}
 use Rattle.pcm_bus.specs.Handovers.{AreMixedFor, HasMade, IsPlannedBy, raised_frames}
+
+-- a device that a bus can be made for, with the boxes of a rack
+pub record CanCarry {B : Type 0} (kind : B → Kind) (device : Device) (rack : RackOf B) : Type 0 where
+  pub rates : HasRates device
+  pub ring : device.ring_frames ≤ RING_FRAMES
+  pub mix : mix_frames (unfiltered device) ≤ MIX_FRAMES
+  pub kinds : IsRack kind rack
 
 -- a chain has made what was handed over of some frames
 pub record HasMadeSome {B : Type 0} (kept : B → Kept) (device : DeviceSeen) (chain : ChainOf B) (handed : ℕ) : Type 0 where

@@ -6,12 +6,11 @@ ghost use Rattle.pcm_num.specs.Limit.{FitsBits};
 ghost use Rattle.pcm_format.specs.Formats.{bits_of};
 ghost use Rattle.pcm_format.specs.Frames.{frame_bytes};
 ghost use Rattle.pcm_format.specs.Layouts.{channels_of};
-ghost use Rattle.pcm_feeder.specs.Racks.{IsRack};
 ghost use Rattle.pcm_chain.specs.Chains.{HasRack};
 ghost use Rattle.pcm_desk.specs.declared.limits.TheConstants.{MIX_FRAMES, RING_FRAMES};
 ghost use Rattle.pcm_desk.specs.Channels.{mixed_by};
-ghost use Rattle.pcm_desk.specs.Device.{mix_frames, seen, unfiltered, HasRates};
-ghost use Rattle.pcm_bus.specs.Buses.{BusStands, HandsOn, IsRingOf, TurnsBus};
+ghost use Rattle.pcm_desk.specs.Device.{mix_frames, seen, unfiltered};
+ghost use Rattle.pcm_bus.specs.Buses.{BusStands, CanCarry, HandsOn, IsRingOf, TurnsBus};
 ghost use Rattle.pcm_bus.specs.Handovers.{CanMake, HasMade, IsPlannedBy};
 ghost use Rattle.pcm_bus.specs.Slots.{AreMixDue, AreLeft, MapMixes, PlayMixes};
 
@@ -54,10 +53,7 @@ impl<B: Feeder> BusOf<B> {
         tables: &Tables,
         rack: RackOf<B>,
     ) -> Result<BusOf<B>, AllocError>
-        requires rates { HasRates device }
-        requires ring { device.ring_frames ≤ RING_FRAMES }
-        requires mix { mix_frames (unfiltered device) ≤ MIX_FRAMES }
-        requires kinds { IsRack B.kind rack }
+        requires { CanCarry B.kind device rack }
         ensures device { IfOk result (λ made. made.device ≡ device) }
         ensures planned { IfOk result (λ made. IsPlannedBy (seen tables.now device) made.chain) }
         ensures made { IfOk result (λ made. HasMade B.kept (seen tables.now device) made.chain [] 0) }

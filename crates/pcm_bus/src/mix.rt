@@ -30,9 +30,8 @@ pub(crate) trait Mixed<B: Feeder>: Drop {
     ghost use Rattle.pcm_format.specs.Formats.{bits_of};
     ghost use Rattle.pcm_feeder.specs.declared.stage.Gain.{Gain};
     ghost use Rattle.pcm_feeder.specs.Filters.{Filters};
-    ghost use Rattle.pcm_feeder.specs.Limits.{IsGain};
     ghost use Rattle.pcm_desk.specs.declared.device.Device.{Device};
-    ghost use Rattle.pcm_path.specs.Paths.{HoldBlock};
+    ghost use Rattle.pcm_path.specs.Paths.{CanAdd};
 
     // It is of a device, and ready for an interrupt that mixes so many frames.
     ghost is_due: { Filters → Device → ℕ → Self → Type 0 };
@@ -53,11 +52,9 @@ pub(crate) trait Mixed<B: Feeder>: Drop {
         frames: &mut [i32],
         sum: &mut [i32],
     )
-        requires some { 0 < n }
-        requires gain { IsGain gain }
+        requires adds { CanAdd device n gain frames.old sum.old }
         requires mixed { here.mixed + n < 2 ^ 64 }
         requires due { is_due tables.now device n self.old }
-        requires block { HoldBlock device n frames.old sum.old }
         ensures left { leaves tables.now device here.mixed n self.old self.new }
         ensures adds { adds tables.now device n gain sum.old sum.new self.old }
         ensures fits { All (FitsBits (bits_of device.mix.format)) sum.new };

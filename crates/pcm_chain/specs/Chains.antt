@@ -48,6 +48,12 @@ counts_in chain = chain.counts
 abbrev pub AreFitted : {B : Type 0} → (B → Kept) → ChainOf B → Type 0
 AreFitted kept chain = HaveFitted kept (boxes_in chain) (plan_in chain).stages
 
+-- a chain goes on by its plan, with each box in its place and those of its stages fitted
+pub record StaysFitted {B : Type 0} (kind : B → Kind) (kept : B → Kept) (old new : ChainOf B) : Type 0 where
+  pub plan : plan_in new ≡ plan_in old
+  pub kinds : IsOfKinds kind old → IsOfKinds kind new
+  pub fitted : AreFitted kept new
+
 -- a frame is output k of a stage over a stream, at some gain
 abbrev pub IsOutput : Spec → Filters → Stream → ℕ → Frame → Type 0
 IsOutput spec tables x k frame = (gain : Gain) × (frame ≡ conv spec tables gain x k)

@@ -42,6 +42,12 @@ NeedABlock rate counts want =
 abbrev pub AllowABlock : Rate → Counts → ℕ → Type 0
 AllowABlock rate counts frames = can rate (counts.eaten + frames) < counts.given + BLOCK_FRAMES
 
+-- `want` outputs make a block: some, that have room in it and need no more than its frames
+pub record MakeABlock (rate : Rate) (counts : Counts) (want : ℕ) : Type 0 where
+  pub some : 0 < want
+  pub few : want ≤ BLOCK_FRAMES
+  pub reach : NeedABlock rate counts want
+
 -- What a block of at most `want` outputs moves, where `waiting` frames wait: it eats what the outputs need, as far as that waits;
 -- it gives what is allowed then; and it eats silence where outputs need more.
 pub record Goes (rate : Rate) (ended : Bool) (counts : Counts) (waiting want : ℕ) (advance : Advance) : Type 0 where

@@ -5,10 +5,11 @@ use Rattle.pcm_feeder.specs.declared.stage.Gain.{Gain}
 use Rattle.pcm_feeder.specs.declared.stage.Spec.{Spec}
 use Rattle.pcm_feeder.specs.declared.stage.Spec.TheVariants.{Hold, Linear, Poly}
 use Rattle.pcm_feeder.specs.Filters.{Filters}
-use Rattle.pcm_feeder.specs.Kept.{Kept}
+use Rattle.pcm_feeder.specs.Kept.{Kept, IsFitted}
+use Rattle.pcm_feeder.specs.Limits.{IsGain, IsSpec, HasTable}
 use Rattle.pcm_feeder.specs.Streams.{frames_of, written}
 use Rattle.pcm_feeder.specs.Turns.{Turn, turn, fed}
-use Rattle.pcm_feeder.specs.Stages.{channels_in}
+use Rattle.pcm_feeder.specs.Stages.{channels_in, channels_out}
 use Rattle.pcm_feeder.specs.declared.rack.SevenOf.{SevenOf}
 use Rattle.pcm_sequence.specs.Fixed.{fixed_items}
 use Rattle.pcm_plan.specs.Fits.{Follow, HaveBits}
@@ -39,6 +40,16 @@ turn_in keeps tables gain want spec input = turn (keeps spec) tables gain input 
 abbrev pub fed_in : {B : Type 0} → (B → Kept) → SevenOf B → Spec → Filters → Gain → ℕ → ℕ → List ℤ → Turn
 fed_in kept boxes spec tables gain n want input =
     fed (kept_in kept boxes spec) tables gain (take (n * channels_in spec) input) (asked spec want n)
+
+-- what such a feed asks: a stage within its limits, its box fitted to it, its table, the frames, and room for those that it is asked for
+pub record CanFeedIn {B : Type 0} (kept : B → Kept) (boxes : SevenOf B) (spec : Spec) (tables : Filters) (gain : Gain)
+    (n want : ℕ) (input output : List ℤ) : Type 0 where
+  pub limits : IsSpec spec
+  pub fitted : IsFitted spec (kept_in kept boxes spec)
+  pub gain_limits : IsGain gain
+  pub filter : HasTable spec tables
+  pub source : n * channels_in spec ≤ length input
+  pub room : asked spec want n * channels_out spec ≤ length output
 
 -- the frames that come out of stages, each offered what the one before it gives
 abbrev pub fed_through : (Spec → Kept) → Filters → Gain → ℕ → List Spec → List Frame → List Frame

@@ -1,28 +1,39 @@
 -- What a pull eats and gives.
-use Rattle.std.specs.Prelude.{◌≡◌, ◌<◌, ℕ, ◌+◌, ◌-◌, min, max, ℤ, Bool, IsTrue, List, [], ◌++◌, length, take}
+use Rattle.std.specs.Prelude.{◌≡◌, ◌<◌, ◌≤◌, ℕ, ◌+◌, ◌-◌, ◌*◌, min, max, ℤ, Bool, IsTrue, List, [], ◌++◌, length, take}
 use Rattle.pcm_format.specs.declared.format.Format.{Format}
 use Rattle.pcm_format.specs.Frames.{Frame}
 use Rattle.pcm_format.specs.Layouts.{channels_of}
 use Rattle.pcm_format.specs.Samples.{samples}
 use Rattle.pcm_rate.specs.declared.rate.Rate.{Rate}
 use Rattle.pcm_rate.specs.Rates.{need}
+use Rattle.pcm_feeder.specs.declared.kind.Kind.{Kind}
 use Rattle.pcm_feeder.specs.declared.stage.Gain.{Gain}
 use Rattle.pcm_feeder.specs.Filters.{Filters}
 use Rattle.pcm_feeder.specs.Kept.{Kept}
+use Rattle.pcm_feeder.specs.Limits.{IsGain}
 use Rattle.pcm_feeder.specs.Streams.{frames_of, written}
 use Rattle.pcm_plan.specs.Plans.{PlanSeen, rate_in_plan}
-use Rattle.pcm_plan.specs.Fits.{HaveBits}
+use Rattle.pcm_plan.specs.Fits.{HaveBits, HaveTables}
 use Rattle.pcm_plan.specs.Through.{outs}
 use Rattle.pcm_ring.specs.Ring.{Ring}
 use Rattle.pcm_chain.specs.declared.chain.ChainOf.{ChainOf}
 use Rattle.pcm_chain.specs.declared.chain.Pulled.{Pulled}
 use Rattle.pcm_chain.specs.Bits.{bits_left}
-use Rattle.pcm_chain.specs.Chains.{plan_in, ChainStands}
+use Rattle.pcm_chain.specs.Chains.{plan_in, AreFitted, ChainStands, StaysFitted}
 use Rattle.pcm_chain.specs.Counts.{allowed_in_all}
+use Rattle.pcm_chain.specs.Rings.{taken_bytes, without_bytes}
 
 -- the whole frames that wait in a ring, in a plan's layout and a format
 abbrev pub waiting_frames : PlanSeen → Format → List ℕ → List Frame
 waiting_frames plan format bytes = frames_of (channels_of plan.source) (samples format bytes)
+
+-- `want` frames can be pulled: the stages have boxes that are fitted, and their tables, and an output has room for these frames
+pub record CanPull {B : Type 0} (kept : B → Kept) (tables : Filters) (gain : Gain) (chain : ChainOf B)
+    (want size : ℕ) : Type 0 where
+  pub fitted : AreFitted kept chain
+  pub limits : IsGain gain
+  pub filters : HaveTables (plan_in chain).stages tables
+  pub room : want * channels_of (plan_in chain).target ≤ size
 
 -- silence was eaten only where nothing more comes, and no frame waits
 abbrev pub IsPastTheEnd : Bool → ℕ → List Frame → Type 0
@@ -52,6 +63,13 @@ pub record Pulls {B : Type 0} (kept : B → Kept) (tables : Filters) (gain : Gai
   pub frames : out_new ≡ written (outs (plan_in old) tables gain (x ++ waiting) before pulled.given) out_old
   pub bits : HaveBits (bits_left (plan_in old).stages) (outs (plan_in old) tables gain (x ++ waiting) before pulled.given)
   pub stands : StandsBehind kept tables ended waiting new x before pulled
+
+-- what a pull leaves: a chain that goes on, and a ring without the frames eaten
+pub record LeavesBehind {B : Type 0} (kind : B → Kind) (kept : B → Kept) (format : Format) (want : ℕ)
+    (old new : ChainOf B) (pulled : Pulled) (ring_old ring_new : Ring) : Type 0 where
+  pub stays : StaysFitted kind kept old new
+  pub most : pulled.given ≤ want
+  pub ring : ring_new ≡ without_bytes (taken_bytes (plan_in old) format pulled.eaten) ring_old
 
 -- a pull does that, whatever the frames x and `before`, where silence was eaten only past the end
 abbrev pub PullsOn : {B : Type 0} → (B → Kept) → Filters → Gain → Bool → ℕ → Format → Ring

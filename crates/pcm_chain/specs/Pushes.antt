@@ -5,16 +5,17 @@ use Rattle.pcm_format.specs.Formats.{bits_of, bytes_of}
 use Rattle.pcm_format.specs.Frames.{Frame, spelled_frames}
 use Rattle.pcm_format.specs.Layouts.{channels_of}
 use Rattle.pcm_rate.specs.Rates.{can}
+use Rattle.pcm_feeder.specs.declared.kind.Kind.{Kind}
 use Rattle.pcm_feeder.specs.Filters.{Filters}
 use Rattle.pcm_feeder.specs.Kept.{Kept}
 use Rattle.pcm_feeder.specs.Streams.{frames_of}
-use Rattle.pcm_plan.specs.Fits.{HaveBits}
+use Rattle.pcm_plan.specs.Fits.{HaveBits, HaveTables}
 use Rattle.pcm_plan.specs.Plans.{PlanSeen, rate_in_plan}
 use Rattle.pcm_plan.specs.Through.{recs}
 use Rattle.pcm_ring.specs.Ring.{Ring, free_bytes}
 use Rattle.pcm_chain.specs.declared.chain.ChainOf.{ChainOf}
 use Rattle.pcm_chain.specs.declared.chain.Pushed.{Pushed}
-use Rattle.pcm_chain.specs.Chains.{plan_in, ChainStands}
+use Rattle.pcm_chain.specs.Chains.{plan_in, ChainStands, IsOfKinds}
 
 -- A chain that records has eaten the frames x, with no silence after them, and has given all outputs
 -- that they allow.
@@ -34,6 +35,20 @@ abbrev pub GivesBitsOf : Format → PlanSeen → Filters → Type 0
 GivesBitsOf format plan tables =
     (frames : List Frame) (from count : ℕ) → HaveBits 32 frames
     → HaveBits (bits_of format) (recs plan tables frames from count)
+
+-- more can be recorded: some frames were, the stages have their tables, and what they make has the bits of a format
+pub record CanRecord {B : Type 0} (kept : B → Kept) (tables : Filters) (format : Format) (chain : ChainOf B)
+    : Type 0 where
+  pub records : HasRecordedSome kept tables chain
+  pub filters : HaveTables (plan_in chain).stages tables
+  pub bits : GivesBitsOf format (plan_in chain) tables
+
+-- a chain goes on by its plan, with each box in its place, and has recorded some frames
+pub record StaysRecording {B : Type 0} (kind : B → Kind) (kept : B → Kept) (tables : Filters)
+    (old new : ChainOf B) : Type 0 where
+  pub plan : plan_in new ≡ plan_in old
+  pub kinds : IsOfKinds kind old → IsOfKinds kind new
+  pub records : HasRecordedSome kept tables new
 
 -- how many frames of a plan's target have room in a ring, in a format
 abbrev pub room_for : PlanSeen → Format → Ring → ℕ

@@ -7,7 +7,7 @@ ghost use Rattle.pcm_plan.specs.Plans.{rate_in_plan};
 ghost use Rattle.pcm_chain.specs.Counts.{AreBounded};
 ghost use Rattle.pcm_chain.specs.declared.staging.TheConstants.{BLOCK_SAMPLES};
 
-use crate::counts::Counts;
+use crate::counts::{Counts, RatedCounts};
 use crate::stages::{feed_stages, fit_stages};
 use crate::staging::{BLOCK_SAMPLES, Staging};
 use pcm_feeder::{Feeder, Gain, RackOf, SevenOf, Tables, UNITY};
@@ -48,19 +48,19 @@ pub struct Pushed {
 }
 
 impl<B: Feeder> ChainOf<B> {
-    ghost use Rattle.std.specs.Prelude.{◌+◌, ◌<◌, ◌%◌, [], length, min, take, All, IfOk};
+    ghost use Rattle.std.specs.Prelude.{◌%◌, [], length, min, take, All, IfOk};
     ghost use Rattle.pcm_num.specs.Limit.{FitsBits};
     ghost use Rattle.pcm_format.specs.Layouts.{channels_of};
     ghost use Rattle.pcm_feeder.specs.Filters.{Filters};
-    ghost use Rattle.pcm_feeder.specs.Limits.{IsGain};
+    ghost use Rattle.pcm_feeder.specs.Layouts.{unity};
     ghost use Rattle.pcm_feeder.specs.Racks.{IsRack, boxes_of};
-    ghost use Rattle.pcm_plan.specs.Fits.{HaveBits, HaveTables};
-    ghost use Rattle.pcm_chain.specs.Chains.{boxes_in, counts_in, marks_in, plan_in, AreFitted, IsOfKinds, ChainStands};
-    ghost use Rattle.pcm_chain.specs.Counts.{NeedABlock, AllowABlock};
+    ghost use Rattle.pcm_plan.specs.Fits.{HaveBits, HaveTables, IsPlan};
+    ghost use Rattle.pcm_chain.specs.Chains.{boxes_in, counts_in, marks_in, plan_in, AreFitted, IsOfKinds, ChainStands, StaysFitted};
+    ghost use Rattle.pcm_chain.specs.Counts.{MakeABlock, AllowABlock};
     ghost use Rattle.pcm_chain.specs.Gives.{filling_frames, CanGive, GivesABlock, GivesExactly, GivesOn};
-    ghost use Rattle.pcm_chain.specs.Pulls.{waiting_frames, PullsOn};
-    ghost use Rattle.pcm_chain.specs.Pushes.{pushed_frames, room_for, GivesBitsOf, HasRecorded, HasRecordedSome, PushesOn};
-    ghost use Rattle.pcm_chain.specs.Rings.{taken_bytes, put_bytes, without_bytes, GrowsBy};
+    ghost use Rattle.pcm_chain.specs.Pulls.{waiting_frames, CanPull, LeavesBehind, PullsOn};
+    ghost use Rattle.pcm_chain.specs.Pushes.{pushed_frames, room_for, CanRecord, HasRecorded, PushesOn, StaysRecording};
+    ghost use Rattle.pcm_chain.specs.Rings.{put_bytes, GrowsBy};
     ghost use Rattle.pcm_chain.specs.declared.staging.TheConstants.{BLOCK_FRAMES};
     ghost use Rattle.pcm_chain.specs.declared.chain.TheConstants.{PUSHED_FRAMES};
 
@@ -132,16 +132,9 @@ impl<B: Feeder> ChainOf<B> {
         want: usize,
         out: &mut [i32],
     ) -> Pulled
-        requires fitted { AreFitted B.kept self.old }
-        requires gain { IsGain gain }
-        requires tables { HaveTables (plan_in self.old).stages tables.now }
-        requires room { want * channels_of (plan_in self.old).target ≤ length out.old }
-        ensures plan { plan_in self.new ≡ plan_in self.old }
-        ensures kinds { IsOfKinds B.kind self.old → IsOfKinds B.kind self.new }
-        ensures fitted { AreFitted B.kept self.new }
-        ensures most { result.given ≤ want }
-        ensures ring { ring.new
-            ≡ without_bytes (taken_bytes (plan_in self.old) format result.eaten) ring.old }
+        requires { CanPull B.kept tables.now gain self.old want (length out.old) }
+        ensures leaves { LeavesBehind B.kind B.kept format want
+            self.old self.new result ring.old ring.new }
         ensures pulls { PullsOn B.kept tables.now gain ended want format ring.old
             self.old self.new result out.old out.new }
     {
@@ -150,7 +143,7 @@ impl<B: Feeder> ChainOf<B> {
         let mut pulled = Pulled { given: 0, eaten: 0 };
         let mut asked = 0;
         while asked < want && pulled.given == asked {
-            let block = self.counts.block(self.plan.rate(), want - asked);
+            let block = self.rated_counts().block(want - asked);
             let rest = &mut out[asked * channels..];
             let left = waiting - pulled.eaten;
             let more = self.pull_block(tables, gain, ring, format, ended, left, block, rest);
@@ -175,28 +168,19 @@ impl<B: Feeder> ChainOf<B> {
         want: usize,
         out: &mut [i32],
     ) -> Pulled
-        requires fitted { AreFitted B.kept self.old }
-        requires gain { IsGain gain }
-        requires tables { HaveTables (plan_in self.old).stages tables.now }
+        requires can { CanPull B.kept tables.now gain self.old want (length out.old) }
         requires waiting { waiting
             ≡ length (waiting_frames (plan_in self.old) format ring.old.bytes) }
-        requires some { 0 < want }
-        requires few { want ≤ BLOCK_FRAMES }
-        requires reach { NeedABlock (rate_in_plan (plan_in self.old)) (counts_in self.old) want }
-        requires room { want * channels_of (plan_in self.old).target ≤ length out.old }
-        ensures plan { plan_in self.new ≡ plan_in self.old }
-        ensures kinds { IsOfKinds B.kind self.old → IsOfKinds B.kind self.new }
-        ensures fitted { AreFitted B.kept self.new }
-        ensures most { result.given ≤ want }
+        requires block { MakeABlock (rate_in_plan (plan_in self.old)) (counts_in self.old) want }
+        ensures leaves { LeavesBehind B.kind B.kept format want
+            self.old self.new result ring.old ring.new }
         ensures there { result.eaten ≤ waiting }
-        ensures ring { ring.new
-            ≡ without_bytes (taken_bytes (plan_in self.old) format result.eaten) ring.old }
         ensures pulls { PullsOn B.kept tables.now gain ended want format ring.old
             self.old self.new result out.old out.new }
     {
         let source = self.plan.source().channels();
-        let rate = self.plan.rate();
-        let advance = self.counts.advance(rate, ended, waiting, want);
+        let counts = self.rated_counts();
+        let advance = counts.advance(ended, waiting, want);
         self.staging.load(
             ring,
             format,
@@ -214,7 +198,7 @@ impl<B: Feeder> ChainOf<B> {
             &mut self.staging,
             out,
         );
-        self.counts = self.counts.after(rate, self.plan.period(), advance);
+        self.counts = counts.after(self.plan.period(), advance);
         Pulled {
             given: advance.given,
             eaten: advance.eaten,
@@ -230,14 +214,10 @@ impl<B: Feeder> ChainOf<B> {
         ring: &mut ByteRing,
         format: Format,
     ) -> Pushed
-        requires records { HasRecordedSome B.kept tables.now self.old }
-        requires tables { HaveTables (plan_in self.old).stages tables.now }
-        requires bits { GivesBitsOf format (plan_in self.old) tables.now }
+        requires can { CanRecord B.kept tables.now format self.old }
         requires whole { length input.now % channels_of (plan_in self.old).source ≡ 0 }
         requires few { length (pushed_frames (plan_in self.old) input.now) ≤ PUSHED_FRAMES }
-        ensures plan { plan_in self.new ≡ plan_in self.old }
-        ensures kinds { IsOfKinds B.kind self.old → IsOfKinds B.kind self.new }
-        ensures records { HasRecordedSome B.kept tables.now self.new }
+        ensures stays { StaysRecording B.kind B.kept tables.now self.old self.new }
         // The type of the samples keeps them within 32 bits.
         ensures fits { HaveBits 32 (pushed_frames (plan_in self.old) input.now) }
         ensures kept { result.kept ≡ min result.came (room_for (plan_in self.old) format ring.old) }
@@ -250,7 +230,7 @@ impl<B: Feeder> ChainOf<B> {
         let mut pushed = Pushed { came: 0, kept: 0 };
         let mut eaten = 0;
         while eaten < frames {
-            let block = self.counts.piece(self.plan.rate(), frames - eaten);
+            let block = self.rated_counts().piece(frames - eaten);
             let piece = &input[eaten * channels..(eaten + block) * channels];
             let more = self.push_block(tables, piece, block, ring, format);
             eaten += block;
@@ -271,15 +251,11 @@ impl<B: Feeder> ChainOf<B> {
         ring: &mut ByteRing,
         format: Format,
     ) -> Pushed
-        requires records { HasRecordedSome B.kept tables.now self.old }
-        requires tables { HaveTables (plan_in self.old).stages tables.now }
-        requires bits { GivesBitsOf format (plan_in self.old) tables.now }
+        requires can { CanRecord B.kept tables.now format self.old }
         requires whole { length input.now ≡ frames * channels_of (plan_in self.old).source }
         requires few { frames ≤ BLOCK_FRAMES }
         requires reach { AllowABlock (rate_in_plan (plan_in self.old)) (counts_in self.old) frames }
-        ensures plan { plan_in self.new ≡ plan_in self.old }
-        ensures kinds { IsOfKinds B.kind self.old → IsOfKinds B.kind self.new }
-        ensures records { HasRecordedSome B.kept tables.now self.new }
+        ensures stays { StaysRecording B.kind B.kept tables.now self.old self.new }
         ensures fits { All (FitsBits 32) input.now }
         ensures most { result.came ≤ BLOCK_FRAMES }
         ensures kept { result.kept ≡ min result.came (room_for (plan_in self.old) format ring.old) }
@@ -290,8 +266,8 @@ impl<B: Feeder> ChainOf<B> {
     {
         let source = self.plan.source().channels();
         let target = self.plan.target().channels();
-        let rate = self.plan.rate();
-        let advance = self.counts.advance_whole(rate, frames);
+        let counts = self.rated_counts();
+        let advance = counts.advance_whole(frames);
         self.staging.copy(input);
         // One more is asked for than comes: so all frames are eaten.
         feed_stages(
@@ -305,7 +281,7 @@ impl<B: Feeder> ChainOf<B> {
             &mut self.staging,
             &mut self.block,
         );
-        self.counts = self.counts.after(rate, self.plan.period(), advance);
+        self.counts = counts.after(self.plan.period(), advance);
         let came = advance.given;
         let kept = self.staging.spell(&self.block, target, came, ring, format);
         Pushed { came, kept }
@@ -319,9 +295,7 @@ impl<B: Feeder> ChainOf<B> {
         requires fills { length out.old % channels_of (plan_in self.old).target ≡ 0 }
         requires can { CanGive B.kept tables.now self.old input.now
             (filling_frames (plan_in self.old) out.old) }
-        ensures plan { plan_in self.new ≡ plan_in self.old }
-        ensures kinds { IsOfKinds B.kind self.old → IsOfKinds B.kind self.new }
-        ensures fitted { AreFitted B.kept self.new }
+        ensures stays { StaysFitted B.kind B.kept self.old self.new }
         // The type of the samples keeps them within 32 bits.
         ensures fits { HaveBits 32 (pushed_frames (plan_in self.old) input.now) }
         ensures gives { GivesOn B.kept tables.now input.now
@@ -334,7 +308,7 @@ impl<B: Feeder> ChainOf<B> {
         let mut asked = 0;
         let mut eaten = 0;
         while asked < want {
-            let block = self.counts.block(self.plan.rate(), want - asked);
+            let block = self.rated_counts().block(want - asked);
             let piece = &input[eaten * source..];
             let rest = &mut out[asked * target..];
             eaten += self.give_block(tables, piece, frames - eaten, block, rest);
@@ -351,16 +325,10 @@ impl<B: Feeder> ChainOf<B> {
         want: usize,
         out: &mut [i32],
     ) -> usize
-        requires fitted { AreFitted B.kept self.old }
-        requires tables { HaveTables (plan_in self.old).stages tables.now }
+        requires can { CanPull B.kept tables.now unity self.old want (length out.old) }
         requires waiting { waiting ≡ length (pushed_frames (plan_in self.old) input.now) }
-        requires some { 0 < want }
-        requires few { want ≤ BLOCK_FRAMES }
-        requires reach { NeedABlock (rate_in_plan (plan_in self.old)) (counts_in self.old) want }
-        requires room { want * channels_of (plan_in self.old).target ≤ length out.old }
-        ensures plan { plan_in self.new ≡ plan_in self.old }
-        ensures kinds { IsOfKinds B.kind self.old → IsOfKinds B.kind self.new }
-        ensures fitted { AreFitted B.kept self.new }
+        requires block { MakeABlock (rate_in_plan (plan_in self.old)) (counts_in self.old) want }
+        ensures stays { StaysFitted B.kind B.kept self.old self.new }
         ensures there { result ≤ waiting }
         ensures fits { All (FitsBits 32)
             (take (result * channels_of (plan_in self.old).source) input.now) }
@@ -368,8 +336,8 @@ impl<B: Feeder> ChainOf<B> {
             self.old self.new result out.old out.new }
     {
         let source = self.plan.source().channels();
-        let rate = self.plan.rate();
-        let advance = self.counts.advance(rate, false, waiting, want);
+        let counts = self.rated_counts();
+        let advance = counts.advance(false, waiting, want);
         self.staging.copy(&input[..advance.eaten * source]);
         feed_stages(
             &mut self.boxes,
@@ -382,8 +350,20 @@ impl<B: Feeder> ChainOf<B> {
             &mut self.staging,
             out,
         );
-        self.counts = self.counts.after(rate, self.plan.period(), advance);
+        self.counts = counts.after(self.plan.period(), advance);
         advance.eaten
+    }
+
+    // The counts, by the rate of the plan.
+    fn rated_counts(&self) -> RatedCounts
+        ensures rate { result.rate ≡ rate_in_plan (plan_in self.now) }
+        ensures counts { result.counts ≡ counts_in self.now }
+        ensures fits { IsPlan (plan_in self.now) }
+    {
+        RatedCounts {
+            rate: self.plan.rate(),
+            counts: self.counts,
+        }
     }
 }
 

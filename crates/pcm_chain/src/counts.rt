@@ -1,8 +1,9 @@
 //! How many frames a chain has eaten and given.
 
 ghost use Rattle.std.specs.Prelude.{◌≡◌, ◌<◌, ◌≤◌, ◌+◌, ◌-◌, min};
+ghost use Rattle.std.proofs.Props.{props};
 ghost use Rattle.pcm_rate.specs.Rates.{IsPeriod, need, can};
-ghost use Rattle.pcm_chain.specs.Counts.{allowed_in_all, eats_all, fed_in_all, moved_on_by, AreBounded, Goes, IsNear, InTime, NeedABlock, AllowABlock, StandOn};
+ghost use Rattle.pcm_chain.specs.Counts.{allowed_in_all, eats_all, fed_in_all, moved_on_by, AreBounded, Goes, IsNear, InTime, MakeABlock, NeedABlock, AllowABlock, StandOn};
 ghost use Rattle.pcm_chain.specs.declared.staging.TheConstants.{BLOCK_FRAMES};
 
 use crate::staging::BLOCK_FRAMES;
@@ -14,6 +15,15 @@ use pcm_rate::Rate;
 pub struct Counts {
     pub eaten: u64,
     pub given: u64,
+}
+
+/// The counts of a chain, and the rate of its plan.
+#[derive(Clone, Copy)]
+pub struct RatedCounts {
+    pub rate: Rate,
+    pub counts: Counts,
+    ghost near: { IsNear rate } by { Prim.hlevel props },
+    ghost bounded: { AreBounded rate counts } by { Prim.hlevel props },
 }
 
 /// What a block moves, in frames: those that it eats out of a ring, the silence that it eats after them, and those that it
@@ -32,47 +42,43 @@ impl Counts {
     {
         Counts { eaten: 0, given: 0 }
     }
+}
 
+impl RatedCounts {
     /// How many of `want` outputs make a block: no more than a block's frames are eaten for them.
-    pub fn block(self, rate: Rate, want: usize) -> usize
-        requires near { IsNear rate }
-        requires bounded { AreBounded rate self }
-        requires some { 0 < want }
-        ensures some { 0 < result }
+    pub fn block(self, want: usize) -> usize
+        requires { 0 < want }
         ensures wanted { result ≤ want }
-        ensures few { result ≤ BLOCK_FRAMES }
-        ensures reach { NeedABlock rate self result }
+        ensures block { MakeABlock self.rate self.counts result }
     {
-        let allowed = rate.can(self.fed(rate) + BLOCK_FRAMES as u64);
-        let more = allowed - u128::from(self.given);
+        let allowed = self.rate.can(self.fed() + BLOCK_FRAMES as u64);
+        let more = allowed - u128::from(self.counts.given);
         more.min(want.min(BLOCK_FRAMES) as u128) as usize
     }
 
     // How many frames went into the stages.
-    fn fed(self, rate: Rate) -> u64
-        requires near { IsNear rate }
-        requires bounded { AreBounded rate self }
-        ensures { result ≡ fed_in_all rate self }
+    fn fed(self) -> u64
+        ensures { result ≡ fed_in_all self.rate self.counts }
     {
-        self.eaten.max(rate.need(self.given) as u64)
+        self.counts
+            .eaten
+            .max(self.rate.need(self.counts.given) as u64)
     }
 
     /// What a block of at most `want` outputs moves, where `waiting` frames wait.
-    pub fn advance(self, rate: Rate, ended: bool, waiting: usize, want: usize) -> Advance
-        requires near { IsNear rate }
-        requires bounded { AreBounded rate self }
+    pub fn advance(self, ended: bool, waiting: usize, want: usize) -> Advance
         requires few { want ≤ BLOCK_FRAMES }
-        requires reach { NeedABlock rate self want }
-        ensures goes { Goes rate ended self waiting want result }
+        requires reach { NeedABlock self.rate self.counts want }
+        ensures goes { Goes self.rate ended self.counts waiting want result }
         ensures block { result.eaten + result.silent ≤ BLOCK_FRAMES }
         ensures given { result.given ≤ want }
         ensures there { result.eaten ≤ waiting }
     {
-        let fed = self.fed(rate);
-        let needed = rate.need(self.given + want as u64) as u64;
+        let fed = self.fed();
+        let needed = self.rate.need(self.counts.given + want as u64) as u64;
         let eaten = needed.saturating_sub(fed).min(waiting as u64);
-        let given = self.gives(rate, ended, self.eaten + eaten, want);
-        let used = rate.need(self.given + given as u64) as u64;
+        let given = self.gives(ended, self.counts.eaten + eaten, want);
+        let used = self.rate.need(self.counts.given + given as u64) as u64;
         Advance {
             eaten: eaten as usize,
             silent: used.saturating_sub(fed + eaten) as usize,
@@ -81,68 +87,61 @@ impl Counts {
     }
 
     // How many of `want` more outputs are given, once `frames` frames in all are eaten.
-    fn gives(self, rate: Rate, ended: bool, frames: u64, want: usize) -> usize
-        requires { IsNear rate }
-        ensures { result ≡ min want (allowed_in_all ended rate frames - self.given) }
+    fn gives(self, ended: bool, frames: u64, want: usize) -> usize
+        ensures { result ≡ min want (allowed_in_all ended self.rate frames - self.counts.given) }
     {
         let allowed = if ended {
-            rate.len(frames)
+            self.rate.len(frames)
         } else {
-            rate.can(frames)
+            self.rate.can(frames)
         };
-        let more = allowed.saturating_sub(u128::from(self.given));
+        let more = allowed.saturating_sub(u128::from(self.counts.given));
         more.min(want as u128) as usize
     }
 
     /// How many of `offered` frames make a block that is eaten whole: the outputs that come of it, and
     /// one more, have room in a block.
-    pub fn piece(self, rate: Rate, offered: usize) -> usize
-        requires near { IsNear rate }
-        requires bounded { AreBounded rate self }
+    pub fn piece(self, offered: usize) -> usize
         requires some { 0 < offered }
         ensures some { 0 < result }
         ensures offered { result ≤ offered }
         ensures few { result ≤ BLOCK_FRAMES }
-        ensures reach { AllowABlock rate self result }
+        ensures reach { AllowABlock self.rate self.counts result }
     {
-        let past = rate.need(self.given + BLOCK_FRAMES as u64) as u64;
-        let more = past - 1 - self.eaten;
+        let past = self.rate.need(self.counts.given + BLOCK_FRAMES as u64) as u64;
+        let more = past - 1 - self.counts.eaten;
         offered.min(BLOCK_FRAMES).min(more as usize)
     }
 
     /// What a block of `frames` frames moves that is eaten whole.
-    pub fn advance_whole(self, rate: Rate, frames: usize) -> Advance
-        requires near { IsNear rate }
-        requires bounded { AreBounded rate self }
+    pub fn advance_whole(self, frames: usize) -> Advance
         requires few { frames ≤ BLOCK_FRAMES }
-        requires reach { AllowABlock rate self frames }
-        ensures { result ≡ eats_all rate self frames }
+        requires reach { AllowABlock self.rate self.counts frames }
+        ensures { result ≡ eats_all self.rate self.counts frames }
     {
-        let allowed = rate.can(self.eaten + frames as u64);
+        let allowed = self.rate.can(self.counts.eaten + frames as u64);
         Advance {
             eaten: frames,
             silent: 0,
-            given: allowed.saturating_sub(u128::from(self.given)) as usize,
+            given: allowed.saturating_sub(u128::from(self.counts.given)) as usize,
         }
     }
 
     /// The counts after a block, without whole periods: `period` is how many frames and outputs one has.
-    pub fn after(self, rate: Rate, period: (u32, u32), advance: Advance) -> Counts
-        requires near { IsNear rate }
-        requires bounded { AreBounded rate self }
-        requires in_time { InTime rate (moved_on_by self advance) }
+    pub fn after(self, period: (u32, u32), advance: Advance) -> Counts
+        requires in_time { InTime self.rate (moved_on_by self.counts advance) }
         requires few { advance.given ≤ BLOCK_FRAMES }
         requires eaten { advance.eaten ≤ BLOCK_FRAMES }
-        requires period { IsPeriod rate period.0 period.1 }
+        requires period { IsPeriod self.rate period.0 period.1 }
         requires frames { 0 < period.0 }
         requires outputs { 0 < period.1 }
-        requires within { period.1 ≤ rate.dst }
-        ensures bounded { AreBounded rate result }
-        ensures stands { StandOn rate self advance result }
+        requires within { period.1 ≤ self.rate.dst }
+        ensures bounded { AreBounded self.rate result }
+        ensures stands { StandOn self.rate self.counts advance result }
     {
         let (frames, outputs) = (u64::from(period.0), u64::from(period.1));
-        let eaten = self.eaten + advance.eaten as u64;
-        let given = self.given + advance.given as u64;
+        let eaten = self.counts.eaten + advance.eaten as u64;
+        let given = self.counts.given + advance.given as u64;
         let periods = given.saturating_sub(1) / outputs;
         Counts {
             eaten: eaten - periods * frames,

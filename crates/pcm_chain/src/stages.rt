@@ -4,16 +4,16 @@ ghost use Rattle.std.specs.Prelude.{◌≡◌, ◌≤◌, ◌*◌, length, All};
 ghost use Rattle.pcm_num.specs.Limit.{FitsBits};
 ghost use Rattle.pcm_rate.specs.Rates.{unchanged};
 ghost use Rattle.pcm_feeder.specs.declared.stage.Spec.{Spec};
-ghost use Rattle.pcm_feeder.specs.Kept.{fresh, IsFitted};
-ghost use Rattle.pcm_feeder.specs.Limits.{AreChannels, IsSpec, IsGain, HasTable};
+ghost use Rattle.pcm_feeder.specs.Kept.{fresh};
+ghost use Rattle.pcm_feeder.specs.Limits.{AreChannels, IsSpec, IsGain};
 ghost use Rattle.pcm_feeder.specs.Racks.{marks_of, HaveKinds};
 ghost use Rattle.pcm_feeder.specs.Stages.{channels_in, channels_out};
 ghost use Rattle.pcm_feeder.specs.Streams.{written};
 ghost use Rattle.pcm_plan.specs.Plans.{rate_among};
 ghost use Rattle.pcm_plan.specs.Fits.{AreDistinct, HaveBits, HaveTables};
 ghost use Rattle.pcm_chain.specs.Bits.{bits_after};
-ghost use Rattle.pcm_chain.specs.Boxes.{kept_in, HaveFitted, KeepOthers, KeepAllOthers};
-ghost use Rattle.pcm_chain.specs.Feeds.{asked, fed_in, first_staged, GoneThrough, HaveRoom};
+ghost use Rattle.pcm_chain.specs.Boxes.{kept_in, CanFit, HaveFitted, KeepOthers, KeepAllOthers};
+ghost use Rattle.pcm_chain.specs.Feeds.{asked, fed_in, first_staged, CanFeedIn, GoneThrough, HaveRoom};
 ghost use Rattle.pcm_chain.specs.declared.staging.TheConstants.{BLOCK_FRAMES};
 
 use crate::staging::Staging;
@@ -35,8 +35,7 @@ pub fn fit_stages<B: Feeder>(boxes: &mut SevenOf<B>, stages: &[Spec])
 
 // Fits the box of a stage to it. The other boxes keep what they kept.
 fn fit_stage<B: Feeder>(boxes: &mut SevenOf<B>, spec: Spec)
-    requires kinds { HaveKinds B.kind boxes.old }
-    requires limits { IsSpec spec }
+    requires { CanFit B.kind boxes.old spec }
     ensures kinds { HaveKinds B.kind boxes.new }
     ensures fresh { kept_in B.kept boxes.new spec ≡ fresh spec }
     ensures others { KeepOthers B.kept spec boxes.old boxes.new }
@@ -129,12 +128,7 @@ fn feed_stage<B: Feeder>(
     input: &[i32],
     output: &mut [i32],
 ) -> usize
-    requires limits { IsSpec spec }
-    requires fitted { IsFitted spec (kept_in B.kept boxes.old spec) }
-    requires gain { IsGain gain }
-    requires filter { HasTable spec tables.now }
-    requires source { frames * channels_in spec ≤ length input.now }
-    requires room { asked spec want frames * channels_out spec ≤ length output.old }
+    requires { CanFeedIn B.kept boxes.old spec tables.now gain frames want input.now output.old }
     ensures kinds { HaveKinds B.kind boxes.old → HaveKinds B.kind boxes.new }
     ensures kept { kept_in B.kept boxes.new spec
         ≡ (fed_in B.kept boxes.old spec tables.now gain frames want input.now).kept }

@@ -1,5 +1,5 @@
 -- The configuration that a text is, or why it is none.
-use Rattle.std.specs.Prelude.{◌≡◌, ℕ, Bool, true, ◌&&◌, ◌==◌, ◌%◌, nat_le, if◌then◌else◌, List, [], length, Option, Some, None, Result, Ok}
+use Rattle.std.specs.Prelude.{◌≡◌, ℕ, Bool, true, ◌&&◌, ◌==◌, ◌%◌, nat_le, if◌then◌else◌, List, [], length, Option, Some, None, Result, Ok, IfOk}
 use Rattle.std.specs.Str.{is_utf8}
 use Rattle.std.specs.Cmp.Lexicographic.{slice_cmp}
 use Rattle.std.specs.List.{list_all}
@@ -18,12 +18,14 @@ use Rattle.pcm_config.specs.declared.config.Config.{Config}
 use Rattle.pcm_config.specs.declared.config.Container.{Container}
 use Rattle.pcm_config.specs.declared.config.Container.TheVariants.{Raw, Wav}
 use Rattle.pcm_config.specs.declared.config.FilePath.{FilePath}
+use Rattle.pcm_config.specs.declared.fault.ConfigFault.{ConfigFault}
 use Rattle.pcm_config.specs.declared.fault.ConfigKind.TheVariants as kinds
 use Rattle.pcm_config.specs.declared.fault.ConfigRefusal.{ConfigRefusal}
 use Rattle.pcm_config.specs.declared.hardware.Hardware.{Hardware}
 use Rattle.pcm_config.specs.declared.limits.TheConstants.{CONFIG_BYTES}
 use Rattle.pcm_config.specs.declared.place.ConfigPlace.TheVariants as places
 use Rattle.pcm_config.specs.declared.slots.Slots.{Slots}
+use Rattle.pcm_config.specs.Answers.{Reads}
 use Rattle.pcm_config.specs.Judgements.{◌>>=◌, ◌>>◌, must_hold, required}
 use Rattle.pcm_config.specs.Places.{top_places, device_places, vchans_places}
 use Rattle.pcm_config.specs.Lookups.{has_only, table_in}
@@ -138,3 +140,8 @@ HasCapture config = has_capture config.files config.capture ≡ true
 -- the files are in the byte order of their names, and no two have one name
 abbrev pub AreInOrder : List FilePath → Type 0
 AreInOrder files = IsStrictlySortedBy (slice_cmp nat_cmp) (names_of files)
+
+-- what was judged of a table of files; those that are read are in their order
+pub record ReadsFiles (result : Result (List FilePath) ConfigFault) (told : Result (List FilePath) ConfigRefusal) : Type 0 where
+  pub read : Reads result told
+  pub order : IfOk result AreInOrder

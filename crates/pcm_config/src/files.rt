@@ -3,8 +3,7 @@
 ghost use Rattle.std.specs.Prelude.{◌≡◌, IfOk};
 ghost use Rattle.std.specs.List.{list_all};
 ghost use Rattle.toml.specs.View.{table_view};
-ghost use Rattle.pcm_config.specs.Answers.{Reads};
-ghost use Rattle.pcm_config.specs.Configs.{AreInOrder};
+ghost use Rattle.pcm_config.specs.Configs.{ReadsFiles};
 ghost use Rattle.pcm_config.specs.Files.{files_in, files_of, is_file, is_file_name, is_name_byte, is_named};
 ghost use Rattle.pcm_config.specs.Judgements.{required};
 ghost use Rattle.pcm_config.specs.Lookups.{entries_of, members_seen};
@@ -21,8 +20,7 @@ pub const FILE_NAME_BYTES: usize = 32;
 
 // The files of their table, in the byte order of their names.
 pub(crate) fn files_in(alloc: Global, table: Option<&Table>) -> Result<FilePaths, ConfigFault>
-    ensures read { Reads result (files_in (members_seen table.entry)) }
-    ensures order { IfOk result AreInOrder }
+    ensures { ReadsFiles result (files_in (members_seen table.entry)) }
 {
     let files = files_of(alloc, table)?;
     if !are_files(files.as_slice()) {
@@ -33,8 +31,7 @@ pub(crate) fn files_in(alloc: Global, table: Option<&Table>) -> Result<FilePaths
 
 // The files of their table, if it is there. Each path is a text.
 fn files_of(alloc: Global, table: Option<&Table>) -> Result<FilePaths, ConfigFault>
-    ensures read { Reads result (required Kind Files (files_of (entries_of (members_seen table.entry)))) }
-    ensures order { IfOk result AreInOrder }
+    ensures { ReadsFiles result (required Kind Files (files_of (entries_of (members_seen table.entry)))) }
 {
     match table {
         Some(table) => paths_of(alloc, table),
@@ -43,8 +40,7 @@ fn files_of(alloc: Global, table: Option<&Table>) -> Result<FilePaths, ConfigFau
 }
 
 fn paths_of(alloc: Global, table: &Table) -> Result<FilePaths, ConfigFault>
-    ensures read { Reads result (required Kind Files (files_of (entries_of (table_view table.now)))) }
-    ensures order { IfOk result AreInOrder }
+    ensures { ReadsFiles result (required Kind Files (files_of (entries_of (table_view table.now)))) }
 {
     let mut files = Vec::new(alloc);
     for (name, path) in table {

@@ -4,15 +4,13 @@ ghost use Rattle.std.specs.Prelude.{◌≡◌, ◌++◌, ℕ, List, IfErr, IfOk,
 ghost use Rattle.pcm_outside.specs.Results.{DoesAppend};
 ghost use Rattle.pcm_convert.specs.Conversions.{converted_body};
 ghost use Rattle.pcm_convert.specs.Stands.{ConversionStands, source_in, target_in};
-ghost use Rattle.pcm_feeder.specs.Limits.{IsRate};
-ghost use Rattle.pcm_feeder.specs.Racks.{AreRacks, list_of};
-ghost use Rattle.pcm_wave.specs.Headers.{IsWaveFormat, padding};
+ghost use Rattle.pcm_wave.specs.Headers.{padding};
 ghost use Rattle.pcm_verdict.specs.Outputs.{output_of};
 ghost use Rattle.pcm_verdict.specs.Verdict.{Converts};
-ghost use Rattle.pcm_convert_command.specs.Converting.{CanAppend, wave_body};
+ghost use Rattle.pcm_convert_command.specs.Converting.{CanAppend, CanConvert, CanConvertRates, wave_body};
 ghost use Rattle.pcm_convert_command.specs.Written.{EndsOutput, WritesAll};
 ghost use Rattle.pcm_inputs.specs.Outside.{both, ◌over◌};
-ghost use Rattle.pcm_inputs.specs.Parts.{HasRoom, conversion_to};
+ghost use Rattle.pcm_inputs.specs.Parts.{conversion_to};
 
 use pcm_convert::{BLOCK, ConversionOf};
 use pcm_feeder::{Feeder, RacksOf};
@@ -33,10 +31,7 @@ pub fn convert_wave<B: Feeder, F: Files, K: Sink>(
     out: &mut K,
     name: &str,
 ) -> Result<(), Ending>
-    requires kinds { AreRacks B.kind (list_of racks) }
-    requires rate { IsRate target.rate }
-    requires format { IsWaveFormat target.format }
-    requires size { HasRoom (conversion_to source.now target) }
+    requires { CanConvert B.kind racks source.now target }
     ensures ok { OnOk result (WritesAll (output_of (Converts name.now (conversion_to source.now target)))
         over both F.seen K.seen files out) }
     ensures err { IfErr result (EndsOutput (output_of (Converts name.now (conversion_to source.now target)))
@@ -79,9 +74,7 @@ fn conversion_of<B: Feeder>(
     source: Settings,
     target: Settings,
 ) -> Result<ConversionOf<B>, AllocError>
-    requires kinds { AreRacks B.kind (list_of racks) }
-    requires source { IsRate source.rate }
-    requires target { IsRate target.rate }
+    requires { CanConvertRates B.kind racks source target }
     ensures source { IfOk result (λ made. source_in made ≡ source) }
     ensures target { IfOk result (λ made. target_in made ≡ target) }
     ensures stands { IfOk result (λ made. (body : List ℕ) → ConversionStands B.kept made body 0) }
@@ -99,8 +92,7 @@ fn append_wave<B: Feeder, F: Files>(
     frames: u32,
     block: &mut [u8],
 ) -> Result<(), WriteFault>
-    requires created { IsTrue (F.seen files.old).stands }
-    requires begins { CanAppend B.kept conversion.old body.now frames block.old }
+    requires { CanAppend B.kept (F.seen files.old) conversion.old body.now frames block.old }
     ensures { DoesAppend (F.seen files.old) (F.seen files.new)
         (head.now ++ wave_body (source_in conversion.old) (target_in conversion.old) body.now) result }
 {
@@ -122,8 +114,7 @@ fn append_body<B: Feeder, F: Files>(
     frames: u32,
     block: &mut [u8],
 ) -> Result<(), WriteFault>
-    requires created { IsTrue (F.seen files.old).stands }
-    requires begins { CanAppend B.kept conversion.old body.now frames block.old }
+    requires { CanAppend B.kept (F.seen files.old) conversion.old body.now frames block.old }
     ensures { DoesAppend (F.seen files.old) (F.seen files.new)
         (converted_body (source_in conversion.old) (target_in conversion.old) body.now) result }
 {

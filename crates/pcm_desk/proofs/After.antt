@@ -1,15 +1,9 @@
 -- What an event makes of a channel: nothing, its turn, an opening, or a start with its group.
 use Rattle.std.proofs.Common.{◌≡◌, ℕ, ◌<◌, true, Option, Some, None, inl, inr, refl, sym, ap, ◌∙◌, subst, arith}
 use Rattle.std.proofs.lemmas.Bool.Decides.{nat_tests}
-use Rattle.pcm_format.specs.declared.settings.Settings.{Settings}
-use Rattle.pcm_oss.specs.declared.event.Event.{Event}
+use Rattle.pcm_desk.specs.Types.{Event, Held, MapBook, PlayBook, RecordBook, Settings, Way}
 use Rattle.pcm_oss.specs.declared.event.Event.TheVariants.{Open, StartGroup, Mixer, Intr}
-use Rattle.pcm_oss.specs.declared.event.Way.{Way}
 use Rattle.pcm_group.proofs.Members.{used-some}
-use Rattle.pcm_desk.specs.declared.device.Held.{Held}
-use Rattle.pcm_desk.specs.declared.map_book.MapBook.{MapBook}
-use Rattle.pcm_desk.specs.declared.play_book.PlayBook.{PlayBook}
-use Rattle.pcm_desk.specs.declared.record_book.RecordBook.{RecordBook}
 use Rattle.pcm_desk.specs.Device.{DeviceSeen}
 use Rattle.pcm_desk.specs.Channels.{Channel, Mapped, Playing, Recording, channel_begun, is_free, own_turn, starting}
 use Rattle.pcm_desk.specs.Desk.{Desk, DeskTurn, after, channel_at, channel_turn, desk_here, group_of, group_started, grouping_at, held_by, least_free, opened_at}

@@ -3,13 +3,9 @@ use Rattle.std.proofs.Common.{◌≡◌, ◌≢◌, ℕ, ◌<◌, ◌≤◌, Boo
 use Rattle.std.specs.Prelude.{eqb}
 use Rattle.std.proofs.lemmas.Bool.{cases_lt, cases_eq}
 use Rattle.std.proofs.lemmas.List.{get_or_past, get_or-map, get_or-replicate, length-map, length-replicate, set_past}
-use Rattle.pcm_format.specs.declared.settings.Settings.{Settings}
-use Rattle.pcm_oss.specs.declared.event.Event.{Event}
+use Rattle.pcm_desk.specs.Types.{Event, Groups, Held, Settings, Way}
 use Rattle.pcm_oss.specs.declared.event.Event.TheVariants.{Open, StartGroup, Close, Mixer, Intr}
-use Rattle.pcm_oss.specs.declared.event.Way.{Way}
-use Rattle.pcm_group.specs.declared.sync_groups.Groups.{Groups}
 use Rattle.pcm_group.proofs.Members.{length-change_in, used-some}
-use Rattle.pcm_desk.specs.declared.device.Held.{Held}
 use Rattle.pcm_desk.specs.declared.limits.TheConstants.{DESCRIPTORS}
 use Rattle.pcm_desk.specs.Device.{DeviceSeen}
 use Rattle.pcm_desk.specs.Channels.{Channel, Grouping, channel_begun, may_be_held, own_turn, passing, starting, way_of}

@@ -4,16 +4,8 @@ use Rattle.std.specs.Prelude.{◌≢◌}
 use Rattle.std.proofs.lemmas.Bool.{cases_eq, cases_lt}
 use Rattle.std.proofs.lemmas.List.{length-set, set_past}
 use Rattle.std.proofs.lemmas.List.Quantifiers.{position-Some}
-use Rattle.pcm_format.specs.declared.settings.Settings.{Settings}
-use Rattle.pcm_oss.specs.declared.event.Event.{Event}
+use Rattle.pcm_desk.specs.Types.{Errno, Event, Held, Here, PlayBook, Rate, Request, Settings, Way}
 use Rattle.pcm_oss.specs.declared.event.Event.TheVariants.{Close, Intr, Ioctl}
-use Rattle.pcm_oss.specs.declared.event.Way.{Way}
-use Rattle.pcm_oss.specs.declared.reply.Errno.{Errno}
-use Rattle.pcm_oss.specs.declared.request.Request.{Request}
-use Rattle.pcm_rate.specs.declared.rate.Rate.{Rate}
-use Rattle.pcm_desk.specs.declared.play_book.PlayBook.{PlayBook}
-use Rattle.pcm_desk.specs.declared.device.Held.{Held}
-use Rattle.pcm_desk.specs.declared.here.Here.{Here}
 use Rattle.pcm_desk.specs.Device.{DeviceSeen, here_at}
 use Rattle.pcm_desk.specs.PlayBooks.{play_settled}
 use Rattle.pcm_desk.specs.Channels.{Channel, Grouping, Playing, channel_begun, is_free, is_held, may_be_held, member_refusal, mixing, own_request, own_turn, passing, play_passing, starting, way_of}

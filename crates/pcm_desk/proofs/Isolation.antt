@@ -3,15 +3,10 @@ use Rattle.std.proofs.Common.{◌≡◌, ℕ, ◌<◌, true, false, List, length
 use Rattle.std.specs.Prelude.{◌≢◌}
 use Rattle.std.proofs.lemmas.Bool.{cases_lt}
 use Rattle.std.proofs.lemmas.List.{get_or_past, set_past}
-use Rattle.pcm_format.specs.declared.settings.Settings.{Settings}
-use Rattle.pcm_oss.specs.declared.event.Event.{Event}
+use Rattle.pcm_desk.specs.Types.{Answer, Errno, Event, Held, Settings, Way}
 use Rattle.pcm_oss.specs.declared.event.Event.TheVariants.{Open, StartGroup, Mixer, Intr}
-use Rattle.pcm_oss.specs.declared.event.Way.{Way}
-use Rattle.pcm_oss.specs.declared.reply.Answer.{Answer}
-use Rattle.pcm_oss.specs.declared.reply.Errno.{Errno}
 use Rattle.pcm_oss.specs.declared.reply.Errno.TheVariants.{BadF, Busy, Exist}
 use Rattle.pcm_group.proofs.Members.{used-some}
-use Rattle.pcm_desk.specs.declared.device.Held.{Held}
 use Rattle.pcm_desk.specs.Device.{DeviceSeen}
 use Rattle.pcm_desk.specs.Channels.{Channel, channel_begun, may_be_held, own_turn, starting}
 use Rattle.pcm_desk.specs.Desk.{Desk, DeskTurn, after, channel_at, channel_turn, desk_here, group_of, group_started, grouping_at, held_by, least_free, open_at, open_turn, opened_at, refusing, start_on}

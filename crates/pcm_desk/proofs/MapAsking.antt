@@ -1,10 +1,9 @@
 -- What a request leaves of the settings of a mapped book.
 use Rattle.std.proofs.Common.{◌≡◌, false, arith}
 use Rattle.std.proofs.lemmas.Bool.Decides.{nat_tests}
-use Rattle.pcm_oss.specs.declared.request.Request.{Request}
+use Rattle.pcm_desk.specs.Types.{MapBook, Request}
 use Rattle.pcm_oss.specs.declared.request.Request.TheVariants.{SetPlayVol}
 use Rattle.pcm_feeder.specs.Limits.{IsRate}
-use Rattle.pcm_desk.specs.declared.map_book.MapBook.{MapBook}
 use Rattle.pcm_desk.specs.RunStates.{is_in_setup}
 use Rattle.pcm_desk.specs.MapRequests.{map_ask}
 

@@ -1,8 +1,6 @@
 -- What a request leaves of a mapped book: its counts, or nothing of its run.
 use Rattle.std.proofs.Common.{◌≡◌, true, false, ◌⊎◌, arith}
-use Rattle.pcm_oss.specs.declared.request.Request.{Request}
-use Rattle.pcm_rate.specs.declared.rate.Rate.{Rate}
-use Rattle.pcm_desk.specs.declared.map_book.MapBook.{MapBook}
+use Rattle.pcm_desk.specs.Types.{MapBook, Rate, Request}
 use Rattle.pcm_desk.specs.RunStates.{is_unheld, is_running}
 use Rattle.pcm_desk.specs.MapRequests.{map_ask}
 use Rattle.pcm_desk.specs.MapSafe.{MapIsSafe}

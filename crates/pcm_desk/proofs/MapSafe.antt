@@ -1,16 +1,13 @@
 -- The counts of a mapped book stay in order through every event, for every rate between the client and the mix.
 use Rattle.std.proofs.Common.{◌≡◌, ℕ, ◌+◌, ◌≤◌, true, false, arith}
 use Rattle.std.proofs.Math.Nat.{div-zero}
-use Rattle.pcm_format.specs.declared.settings.Settings.{Settings}
-use Rattle.pcm_oss.specs.declared.request.Request.{Request}
+use Rattle.pcm_desk.specs.Types.{MapBook, Rate, Request, Settings}
 use Rattle.pcm_oss.specs.declared.request.Request.TheVariants.{GetOPtr}
 use Rattle.pcm_oss.specs.Fragments.{AreFragments}
 use Rattle.pcm_oss.specs.Volumes.{is_volume}
 use Rattle.pcm_oss.proofs.Limits.{asked-fragments, usual-fragments}
-use Rattle.pcm_rate.specs.declared.rate.Rate.{Rate}
 use Rattle.pcm_rate.specs.Rates.{need}
 use Rattle.pcm_rate.proofs.Counts.{need_grows}
-use Rattle.pcm_desk.specs.declared.map_book.MapBook.{MapBook}
 use Rattle.pcm_desk.specs.RunStates.{is_in_setup}
 use Rattle.pcm_desk.specs.MapBooks.{map_begun, map_closed, map_refilled, poke_turn, taken_of}
 use Rattle.pcm_desk.specs.MapRequests.{map_ask}

@@ -4,20 +4,12 @@ use Rattle.std.specs.Prelude.{◌≢◌, eqb, nat_lt}
 use Rattle.std.proofs.lemmas.Bool.{cases_lt}
 use Rattle.std.proofs.lemmas.Bool.Decides.{nat_tests}
 use Rattle.std.proofs.lemmas.List.{get_or_past, get_or-replicate, length-replicate}
-use Rattle.pcm_format.specs.declared.settings.Settings.{Settings}
-use Rattle.pcm_oss.specs.declared.event.Event.{Event}
+use Rattle.pcm_desk.specs.Types.{Errno, Event, Groups, Held, Here, PlayBook, Request, Settings, Way}
 use Rattle.pcm_oss.specs.declared.event.Event.TheVariants.{Open, Write, Poke, Read, Ioctl, Join, StartGroup, Close, Mixer, Intr}
-use Rattle.pcm_oss.specs.declared.event.Way.{Way}
 use Rattle.pcm_oss.specs.declared.event.TheConstants.{SLOTS}
-use Rattle.pcm_oss.specs.declared.reply.Errno.{Errno}
-use Rattle.pcm_oss.specs.declared.request.Request.{Request}
 use Rattle.pcm_oss.specs.declared.request.Request.TheVariants.{SetTrigger, Sync}
-use Rattle.pcm_group.specs.declared.sync_groups.Groups.{Groups}
 use Rattle.pcm_group.specs.Groups.{group_at, groups_joined, joining, no_groups}
 use Rattle.pcm_group.proofs.Members.{group-dissolved, group-left, group-other, used-some}
-use Rattle.pcm_desk.specs.declared.here.Here.{Here}
-use Rattle.pcm_desk.specs.declared.device.Held.{Held}
-use Rattle.pcm_desk.specs.declared.play_book.PlayBook.{PlayBook}
 use Rattle.pcm_desk.specs.Device.{DeviceSeen, here_at, mixed_for}
 use Rattle.pcm_desk.specs.Channels.{Channel, Grouping, Playing, channel_begun, join_result, may_be_held, member_refusal, mixed_by, mixing, own_ioctl, own_join, own_poke, own_read, own_request, own_turn, own_write, passing, rests, settling, way_of}
 use Rattle.pcm_desk.specs.Desk.{Desk, DeskTurn, after, channel_at, desk_at_start, group_of, group_started, grouping_at, groups_after, held_by, is_member, least_free, leaving, left_by, open_turn, opened_at}

@@ -1,11 +1,10 @@
 -- What a request of either way does to an opening: nothing, or it sets the opening up again, before a run.
 use Rattle.std.proofs.Common.{◌≡◌, ℕ, Bool, true, ◌⊎◌, arith}
 use Rattle.std.proofs.lemmas.Bool.Decides.{nat_tests}
-use Rattle.pcm_oss.specs.declared.request.Request.{Request}
+use Rattle.pcm_desk.specs.Types.{Opening, Request}
 use Rattle.pcm_oss.specs.Fragments.{AreFragments}
 use Rattle.pcm_oss.proofs.Limits.{asked-fragments}
 use Rattle.pcm_feeder.specs.Limits.{IsRate}
-use Rattle.pcm_desk.specs.declared.opening.Opening.{Opening}
 use Rattle.pcm_desk.specs.Openings.{ask}
 
 -- other settings or other fragments, within the limits, and nothing else

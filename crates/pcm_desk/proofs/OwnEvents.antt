@@ -4,23 +4,16 @@ use Rattle.std.specs.Prelude.{All, IsErr, nat_lt}
 use Rattle.std.proofs.lemmas.Bool.{cases_eq}
 use Rattle.std.proofs.lemmas.Bool.Decides.{nat_tests}
 use Rattle.std.proofs.lemmas.List.Elements.{All-head, All-tail}
-use Rattle.pcm_format.specs.declared.settings.Settings.{Settings}
-use Rattle.pcm_oss.specs.declared.event.Event.{Event}
+use Rattle.pcm_desk.specs.Types.{Answer, Errno, Event, Groups, Held, Settings, Turn, Way}
 use Rattle.pcm_oss.specs.declared.event.Event.TheVariants.{Open, Join, StartGroup, Mixer, Intr}
-use Rattle.pcm_oss.specs.declared.event.Way.{Way}
-use Rattle.pcm_oss.specs.declared.reply.Answer.{Answer}
-use Rattle.pcm_oss.specs.declared.reply.Errno.{Errno}
-use Rattle.pcm_group.specs.declared.sync_groups.Groups.{Groups}
 use Rattle.pcm_group.specs.Groups.{groups_joined}
 use Rattle.pcm_group.proofs.Members.{group-dissolved, group-left, used-some}
-use Rattle.pcm_desk.specs.declared.device.Held.{Held}
 use Rattle.pcm_desk.specs.Device.{DeviceSeen, here_at}
 use Rattle.pcm_desk.specs.Channels.{Channel, Grouping, channel_begun, own_join, own_turn, ungrouped}
 use Rattle.pcm_desk.specs.Desk.{Desk, DeskTurn, after, channel_at, group_of, grouping_at, groups_after, held_by, is_member, with_channel_at}
 use Rattle.pcm_desk.specs.Own.{GoesByDescriptor, GoesByEach, HoldApart, IsIsolatedBy, MembersWait, StartsTogether, descriptor_of, held_after}
 use Rattle.pcm_desk.specs.OwnEvents.{JoinsNone, Opens, OpensAlone, closes, concerns, joins, own_after, own_events, own_replies, replies_to, unnamed}
 use Rattle.pcm_desk.specs.Events.{after_all, frames_taken}
-use Rattle.pcm_desk.specs.declared.turn.Turn.{Turn}
 use Rattle.pcm_desk.proofs.Apart.{apart-after}
 use Rattle.pcm_desk.proofs.Channels.{put-again}
 use Rattle.pcm_desk.proofs.Grouping.{by-starting, is-this}

@@ -1,13 +1,9 @@
 -- No run gives a frame past what is mixed, and none that drains is over, wherever the mix and the device are.
 use Rattle.std.proofs.Common.{◌≡◌, ℕ, ℤ, ◌+◌, ◌<◌, ◌≤◌, Bool, true, false, inl, ap, refl, subst, sym, arith}
 use Rattle.std.proofs.lemmas.Bool.Decides.{nat_tests}
-use Rattle.pcm_format.specs.declared.settings.Settings.{Settings}
-use Rattle.pcm_oss.specs.declared.request.Request.{Request}
-use Rattle.pcm_rate.specs.declared.rate.Rate.{Rate}
+use Rattle.pcm_desk.specs.Types.{Here, PlayBook, Rate, Request, Settings}
 use Rattle.pcm_rate.specs.Rates.{IsRatio}
 use Rattle.pcm_rate.proofs.Counts.{len_above}
-use Rattle.pcm_desk.specs.declared.here.Here.{Here}
-use Rattle.pcm_desk.specs.declared.play_book.PlayBook.{PlayBook}
 use Rattle.pcm_desk.specs.declared.play_book.PlayState.TheVariants.{Draining}
 use Rattle.pcm_desk.specs.PlayBooks.{close_turn, closed_in, drained_in, frames_written, is_over, is_play_setup, is_started, play_begun, play_settled, refilled, started_at, write_turn}
 use Rattle.pcm_desk.specs.PlayRequests.{play_ask, play_roused_in, play_stopped_in, play_with_trigger}

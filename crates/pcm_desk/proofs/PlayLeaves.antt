@@ -3,10 +3,7 @@ use Rattle.std.proofs.Common.{◌≡◌, ℕ, ℤ, ◌+◌, ◌*◌, ◌<◌, �
 use Rattle.std.proofs.lemmas.Bool.Decides.{nat_tests}
 use Rattle.pcm_format.specs.Frames.{frame_bytes}
 use Rattle.pcm_format.proofs.Whole.{bytes_above, frames_fit}
-use Rattle.pcm_oss.specs.declared.request.Request.{Request}
-use Rattle.pcm_rate.specs.declared.rate.Rate.{Rate}
-use Rattle.pcm_desk.specs.declared.here.Here.{Here}
-use Rattle.pcm_desk.specs.declared.play_book.PlayBook.{PlayBook}
+use Rattle.pcm_desk.specs.Types.{Here, PlayBook, Rate, Request}
 use Rattle.pcm_desk.specs.PlayBooks.{accepting, close_turn, drained_in, frames_written, is_draining, is_play_setup, is_started, play_settled}
 use Rattle.pcm_desk.specs.PlayRequests.{play_ask, play_roused_in, play_stopped_in, play_with_trigger}
 use Rattle.pcm_desk.specs.PlaySafe.{IsPlayInOrder, PlayIsSafe}

@@ -3,16 +3,12 @@ use Rattle.std.proofs.Common.{◌≡◌, ℕ, ℤ, ◌+◌, ◌-◌, ◌*◌, �
 use Rattle.std.proofs.Math.Nat.{mul-le-mul_right, zero-div}
 use Rattle.std.specs.Prelude.{nat_le, ◌&&◌}
 use Rattle.std.proofs.lemmas.Bool.{cases_lt}
-use Rattle.pcm_format.specs.declared.settings.Settings.{Settings}
+use Rattle.pcm_desk.specs.Types.{Here, PlayBook, PlayState, Rate, Settings}
 use Rattle.pcm_format.specs.Frames.{frame_bytes}
 use Rattle.pcm_format.proofs.Whole.{whole_frames-mono}
 use Rattle.pcm_oss.proofs.Limits.{usual-fragments}
-use Rattle.pcm_rate.specs.declared.rate.Rate.{Rate}
 use Rattle.pcm_rate.specs.Rates.{IsRatio, need, can, len}
 use Rattle.pcm_rate.proofs.Counts.{below_div_up, can-greatest, can-le-len, need_grows, need-past}
-use Rattle.pcm_desk.specs.declared.here.Here.{Here}
-use Rattle.pcm_desk.specs.declared.play_book.PlayBook.{PlayBook}
-use Rattle.pcm_desk.specs.declared.play_book.PlayState.{PlayState}
 use Rattle.pcm_desk.specs.declared.play_book.PlayState.TheVariants.{Free, Setup, Primed, Running, Draining}
 use Rattle.pcm_desk.specs.Openings.{fragment_bytes}
 use Rattle.pcm_desk.specs.PlayBooks.{accepting, allowed_in, close_turn, drained_in, finished, frames_written, gives, is_draining, is_started, play_begun, play_fill_of, play_free_of, play_settled, refilled, takes_none, write_turn}

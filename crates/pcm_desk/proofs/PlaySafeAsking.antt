@@ -1,13 +1,9 @@
 -- The counts of a book stay in order through every request, which may change the rate between it and the mix in Setup alone.
 use Rattle.std.proofs.Common.{◌≡◌, ℕ, ◌≤◌, Bool, true, false, inl, inr, refl, sym, subst, arith}
-use Rattle.pcm_oss.specs.declared.request.Request.{Request}
+use Rattle.pcm_desk.specs.Types.{Here, Opening, PlayBook, Rate, Request}
 use Rattle.pcm_oss.specs.Fragments.{AreFragments}
 use Rattle.pcm_oss.specs.Volumes.{is_volume}
-use Rattle.pcm_rate.specs.declared.rate.Rate.{Rate}
 use Rattle.pcm_rate.specs.Rates.{IsRatio}
-use Rattle.pcm_desk.specs.declared.here.Here.{Here}
-use Rattle.pcm_desk.specs.declared.play_book.PlayBook.{PlayBook}
-use Rattle.pcm_desk.specs.declared.opening.Opening.{Opening}
 use Rattle.pcm_desk.specs.PlayBooks.{frames_written, is_play_setup, play_dropped, played_of}
 use Rattle.pcm_desk.specs.PlayRequests.{play_ask, play_roused_in, play_with_trigger}
 use Rattle.pcm_desk.specs.PlaySafe.{IsPlayInOrder, PlayIsSafe}

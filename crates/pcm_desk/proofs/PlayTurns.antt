@@ -1,10 +1,7 @@
 -- What is so of a book that plays after an event, where it is so of each book that the event may leave.
 use Rattle.std.proofs.Common.{◌≡◌, ℕ, ℤ, ◌+◌, ◌<◌, Bool, true, false, cond, min, ◌⊎◌, arith}
 use Rattle.std.proofs.lemmas.Bool.Decides.{nat_tests}
-use Rattle.pcm_rate.specs.declared.rate.Rate.{Rate}
-use Rattle.pcm_desk.specs.declared.here.Here.{Here}
-use Rattle.pcm_desk.specs.declared.play_book.PlayBook.{PlayBook}
-use Rattle.pcm_desk.specs.declared.play_book.PlayState.{PlayState}
+use Rattle.pcm_desk.specs.Types.{Here, PlayBook, PlayState, Rate}
 use Rattle.pcm_desk.specs.declared.play_book.PlayState.TheVariants.{Free, Setup, Primed, Running, Draining}
 use Rattle.pcm_desk.specs.PlayBooks.{accepting, closed_in, drained_in, finished, frames_written, gives, is_draining, is_over, is_started, play_dropped, play_emptied, play_free_of, play_settled, refilled, started_at, takes_none, write_turn}
 use Rattle.pcm_desk.specs.PlayRequests.{play_roused_in, play_stopped_in}

@@ -1,17 +1,12 @@
 -- The sets for `by { Prim.hlevel book_props }` and `by { Prim.hlevel record_props }` after a ghost field: that the counts of a book are
 -- in order has one proof at most.
 use Rattle.std.proofs.Props.{props}
-use Rattle.pcm_rate.specs.declared.rate.Rate.{Rate}
-use Rattle.pcm_desk.specs.declared.play_book.PlayBook.{PlayBook}
-use Rattle.pcm_desk.specs.declared.play_book.PlayState.{PlayState}
+use Rattle.pcm_desk.specs.Types.{MapBook, PlayBook, PlayState, Rate, RecordBook, RunState}
 use Rattle.pcm_desk.specs.declared.play_book.PlayState.TheVariants.{Free}
-use Rattle.pcm_desk.specs.declared.record_book.RecordBook.{RecordBook}
-use Rattle.pcm_desk.specs.declared.run_state.RunState.{RunState}
 use Rattle.pcm_desk.specs.declared.run_state.RunState.TheVariants as run_states
 use Rattle.pcm_desk.specs.Desk.{Desk}
 use Rattle.pcm_desk.specs.Own.{HoldApart}
 use Rattle.pcm_desk.specs.PlaySafe.{IsPlayInOrder, PlayIsSafe}
-use Rattle.pcm_desk.specs.declared.map_book.MapBook.{MapBook}
 use Rattle.pcm_desk.specs.MapSafe.{IsMapInOrder, MapIsSafe}
 use Rattle.pcm_desk.specs.RecordSafe.{IsRecordInOrder, RecordIsSafe}
 

@@ -6,19 +6,16 @@ use Rattle.std.proofs.lemmas.Bool.{cond_both, eqb-false, eqb-true}
 use Rattle.std.proofs.lemmas.List.Elements.{All-head, All-tail}
 use Rattle.pcm_format.specs.Formats.{bits_of}
 use Rattle.pcm_format.specs.Frames.{Frame}
-use Rattle.pcm_format.specs.declared.settings.Settings.{Settings}
-use Rattle.pcm_rate.specs.declared.rate.Rate.{Rate}
+use Rattle.pcm_desk.specs.Types.{Device, Filters, Rate, Settings}
 use Rattle.pcm_rate.specs.Rates.{IsRatio, can, need}
 use Rattle.pcm_rate.proofs.Counts.{below_div_up, can-le-len, div_grows, need-apart, need-unchanged, need_grows}
 use Rattle.pcm_feeder.specs.declared.stage.Spec.{Spec}
-use Rattle.pcm_feeder.specs.Filters.{Filters}
 use Rattle.pcm_feeder.specs.Limits.{AreFilters, IsRate, IsSpec}
 use Rattle.pcm_plan.specs.Fits.{HaveBits, IsPlan, HaveTables}
 use Rattle.pcm_plan.specs.Plans.{rate_among}
 use Rattle.pcm_plan.specs.Through.{recs}
 use Rattle.pcm_plan.proofs.Bits.{recs-bits}
 use Rattle.pcm_plan.proofs.Fits.{play-fits, play-ratio, play-tables, record-changes, record-fits, record-level, record-ratio, record-tables}
-use Rattle.pcm_desk.specs.declared.device.Device.{Device}
 use Rattle.pcm_desk.specs.Device.{DeviceSeen, HasRates, IsDevice, device_settings, device_filters, device_quality, play_plan_between, play_rate_between, mix_frames, mix_settings, mixed_for, parent_plan, parent_rate, record_plan_between, record_rate_between, ring_frames, seen}
 use Rattle.pcm_desk.specs.Channels.{mixed_by}
 

@@ -1,9 +1,8 @@
 -- What a request leaves of the settings of a book that records.
 use Rattle.std.proofs.Common.{◌≡◌, false, arith}
 use Rattle.std.proofs.lemmas.Bool.Decides.{nat_tests}
-use Rattle.pcm_oss.specs.declared.request.Request.{Request}
+use Rattle.pcm_desk.specs.Types.{RecordBook, Request}
 use Rattle.pcm_feeder.specs.Limits.{IsRate}
-use Rattle.pcm_desk.specs.declared.record_book.RecordBook.{RecordBook}
 use Rattle.pcm_desk.specs.RunStates.{is_in_setup}
 use Rattle.pcm_desk.specs.RecordRequests.{record_ask}
 

@@ -1,8 +1,6 @@
 -- What a request leaves of a record book: its counts, or nothing of its recording.
 use Rattle.std.proofs.Common.{◌≡◌, true, false, ◌⊎◌, arith}
-use Rattle.pcm_oss.specs.declared.request.Request.{Request}
-use Rattle.pcm_rate.specs.declared.rate.Rate.{Rate}
-use Rattle.pcm_desk.specs.declared.record_book.RecordBook.{RecordBook}
+use Rattle.pcm_desk.specs.Types.{Rate, RecordBook, Request}
 use Rattle.pcm_desk.specs.RunStates.{is_unheld, is_running}
 use Rattle.pcm_desk.specs.RecordRequests.{record_ask}
 use Rattle.pcm_desk.specs.RecordSafe.{RecordIsSafe}

@@ -1,15 +1,12 @@
 -- The counts of a record book stay in order through every event, for every rate between the device and the client.
 use Rattle.std.proofs.Common.{◌≡◌, ℕ, zero, suc, ◌+◌, ◌-◌, ◌*◌, ◌≤◌, false, arith}
 use Rattle.std.proofs.Math.Nat.{div-mul-le_self, div-zero, mul-le-mul_right}
-use Rattle.pcm_format.specs.declared.settings.Settings.{Settings}
+use Rattle.pcm_desk.specs.Types.{Rate, RecordBook, Request, Settings}
 use Rattle.pcm_format.specs.Frames.{frame_bytes}
-use Rattle.pcm_oss.specs.declared.request.Request.{Request}
 use Rattle.pcm_oss.specs.Fragments.{AreFragments}
 use Rattle.pcm_oss.proofs.Limits.{asked-fragments, usual-fragments}
-use Rattle.pcm_rate.specs.declared.rate.Rate.{Rate}
 use Rattle.pcm_rate.specs.Rates.{can, div_up}
 use Rattle.pcm_rate.proofs.Counts.{div_grows}
-use Rattle.pcm_desk.specs.declared.record_book.RecordBook.{RecordBook}
 use Rattle.pcm_desk.specs.RunStates.{is_in_setup}
 use Rattle.pcm_desk.specs.RecordBooks.{captured, closed, keeping, read_turn, record_begun, record_free_of}
 use Rattle.pcm_desk.specs.RecordRequests.{record_ask}

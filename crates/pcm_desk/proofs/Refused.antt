@@ -1,16 +1,8 @@
 -- What is refused leaves the book as it was; and the outcome of a write or a read that isn't refused.
 use Rattle.std.proofs.Common.{◌≡◌, ℕ, ◌+◌, false, min, Ok, Err, arith}
 use Rattle.std.proofs.Common.{arith}
-use Rattle.pcm_oss.specs.declared.reply.Answer.{Answer}
+use Rattle.pcm_desk.specs.Types.{Answer, Errno, Here, MapBook, PlayBook, Rate, RecordBook, Request, Turn}
 use Rattle.pcm_oss.specs.declared.reply.Answer.TheVariants.{Got}
-use Rattle.pcm_oss.specs.declared.reply.Errno.{Errno}
-use Rattle.pcm_oss.specs.declared.request.Request.{Request}
-use Rattle.pcm_rate.specs.declared.rate.Rate.{Rate}
-use Rattle.pcm_desk.specs.declared.here.Here.{Here}
-use Rattle.pcm_desk.specs.declared.play_book.PlayBook.{PlayBook}
-use Rattle.pcm_desk.specs.declared.record_book.RecordBook.{RecordBook}
-use Rattle.pcm_desk.specs.declared.map_book.MapBook.{MapBook}
-use Rattle.pcm_desk.specs.declared.turn.Turn.{Turn}
 use Rattle.pcm_desk.specs.PlayBooks.{accepting, play_free_of, takes_none, write_turn}
 use Rattle.pcm_desk.specs.PlayRequests.{play_ask}
 use Rattle.pcm_desk.specs.RecordBooks as records

@@ -1,12 +1,7 @@
 -- How many bytes come with a reply: with that to a read as many as it got, and with any other none.
 use Rattle.std.proofs.Common.{◌≡◌, ℕ, min, arith}
-use Rattle.pcm_oss.specs.declared.request.Request.{Request}
+use Rattle.pcm_desk.specs.Types.{Here, MapBook, PlayBook, Rate, RecordBook, Request}
 use Rattle.pcm_oss.specs.Replies.{bytes_due}
-use Rattle.pcm_rate.specs.declared.rate.Rate.{Rate}
-use Rattle.pcm_desk.specs.declared.here.Here.{Here}
-use Rattle.pcm_desk.specs.declared.play_book.PlayBook.{PlayBook}
-use Rattle.pcm_desk.specs.declared.record_book.RecordBook.{RecordBook}
-use Rattle.pcm_desk.specs.declared.map_book.MapBook.{MapBook}
 use Rattle.pcm_desk.specs.PlayBooks.{write_turn}
 use Rattle.pcm_desk.specs.PlayRequests.{play_ask}
 use Rattle.pcm_desk.specs.RecordBooks as records

@@ -13,12 +13,11 @@ use Rattle.pcm_format.specs.Frames.{Frame}
 use Rattle.pcm_format.specs.Layouts.{channels_of}
 use Rattle.pcm_format.specs.Samples.{at_full}
 use Rattle.pcm_format.proofs.Ranges.{map-range-shift, part-of-range}
-use Rattle.pcm_rate.specs.declared.rate.Rate.{Rate}
+use Rattle.pcm_desk.specs.Types.{Filters, Rate}
 use Rattle.pcm_rate.specs.Rates.{need}
 use Rattle.pcm_rate.proofs.Counts.{need-unchanged}
 use Rattle.pcm_feeder.specs.declared.stage.Spec.{Spec}
 use Rattle.pcm_feeder.specs.declared.stage.Spec.TheVariants.{Depth}
-use Rattle.pcm_feeder.specs.Filters.{Filters}
 use Rattle.pcm_feeder.specs.Layouts.{unity}
 use Rattle.pcm_feeder.specs.Stages.{at_bits, conv}
 use Rattle.pcm_feeder.specs.Streams.{Stream, silence, stream_of}

@@ -1,11 +1,8 @@
 -- What is so of a desk after an event, where it is so of each desk that the event may lead to.
 use Rattle.std.proofs.Common.{◌≡◌, ℕ, ◌+◌, Option, Some, None, arith}
-use Rattle.pcm_format.specs.declared.settings.Settings.{Settings}
-use Rattle.pcm_oss.specs.declared.event.Event.{Event}
+use Rattle.pcm_desk.specs.Types.{Event, Held, Settings, Way}
 use Rattle.pcm_oss.specs.declared.event.Event.TheVariants.{Intr}
-use Rattle.pcm_oss.specs.declared.event.Way.{Way}
 use Rattle.pcm_oss.specs.declared.reply.Errno.TheVariants.{BadF, Busy, Exist}
-use Rattle.pcm_desk.specs.declared.device.Held.{Held}
 use Rattle.pcm_desk.specs.Device.{DeviceSeen}
 use Rattle.pcm_desk.specs.Desk.{Desk, DeskTurn, after, channel_turn, held_by, least_free, open_at, open_turn, refusing}
 use Rattle.pcm_desk.specs.Events.{frames_taken}

@@ -19,3 +19,4 @@ pub mod Desk
 pub mod Own
 pub mod Events
 pub mod OwnEvents
+pub mod Types

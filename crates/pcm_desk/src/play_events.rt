@@ -4,7 +4,7 @@ ghost use Rattle.std.specs.Prelude.{◌≡◌, ◌+◌, ◌*◌, ◌^◌, ◌<�
 ghost use Rattle.pcm_format.specs.Frames.{frame_bytes};
 ghost use Rattle.pcm_rate.specs.Rates.{IsRatio};
 ghost use Rattle.pcm_desk.specs.PlaySafe.{CanEnd, CanRefill, IsPlayCounted, IsFilled};
-ghost use Rattle.pcm_desk.specs.PlayBooks.{accepting, close_turn, drained_in, finished, frames_written, gives, giving, has_given_all, is_draining, is_over, is_play_free, is_play_setup, is_started, last_after, may_start, play_begun, play_is_ready, play_dropped, play_emptied, play_fill_of, play_free_of, play_settled, primed_in, refilled, started_at, started_in, takes_none, underruns_after, write_turn};
+ghost use Rattle.pcm_desk.specs.PlayBooks.{accepting, close_turn, drained_in, finished, frames_written, gives, giving, has_given_all, is_draining, is_play_free, is_play_setup, is_started, last_after, may_start, play_begun, play_is_ready, play_dropped, play_emptied, play_fill_of, play_free_of, play_settled, primed_in, refilled, started_at, started_in, takes_none, write_turn};
 
 use crate::{Here, Opening, PlayBook, PlayState, Turn};
 use pcm_format::Settings;
@@ -252,7 +252,8 @@ impl PlayBook {
         ensures { result ≡ play_settled rate here.passed self }
     {
         match self.state {
-            PlayState::Draining { closed } if self.is_over(rate, here.passed) => {
+            PlayState::Draining { closed }
+                if self.has_given_all(rate) && i128::from(self.last) <= i128::from(here.passed) => {
                 self.finished(if closed {
                     PlayState::Free
                 } else {
@@ -261,14 +262,6 @@ impl PlayBook {
             }
             _ => self,
         }
-    }
-
-    // Whether all that the run lasts for was given, and its last frame has left the device's ring.
-    fn is_over(&self, rate: Rate, passed: i64) -> bool
-        requires { IsRatio rate }
-        ensures { result ≡ is_over rate passed self.now }
-    {
-        self.has_given_all(rate) && i128::from(self.last) <= i128::from(passed)
     }
 
     // Whether all that the run lasts for was given.
@@ -300,16 +293,17 @@ impl PlayBook {
         ensures { result ≡ refilled rate mixed n self }
     {
         match self.state {
-            PlayState::Running => PlayBook {
-                underruns: self.underruns_after(rate, n),
+            // Fewer than `n` frames are a shortage. The count stands still at its end.
+            PlayState::Running if self.giving(rate, n) < n => PlayBook {
+                underruns: self.underruns.saturating_add(1),
                 ..self.gives(rate, mixed, n)
             },
-            PlayState::Draining { .. } => self.gives(rate, mixed, n),
+            PlayState::Running | PlayState::Draining { .. } => self.gives(rate, mixed, n),
             _ => self,
         }
     }
 
-    // The frames of an interrupt leave the ring and go into the mix. Its caller counts the frames, too: in one place they are counted once.
+    // The frames of an interrupt leave the ring and go into the mix. Inlined, so that its caller's count of them and its own are one.
     #[inline(always)]
     fn gives(self, rate: Rate, mixed: u64, n: u64) -> PlayBook
         requires { CanRefill rate mixed n self }
@@ -333,17 +327,5 @@ impl PlayBook {
         ensures { result ≡ last_after mixed count self.now }
     {
         if count > 0 { mixed + count } else { self.last }
-    }
-
-    // Fewer than `n` frames are a shortage. The count stands still at its end.
-    fn underruns_after(&self, rate: Rate, n: u64) -> u32
-        requires { IsRatio rate }
-        ensures { result ≡ underruns_after rate n self.now }
-    {
-        if self.giving(rate, n) < n {
-            self.underruns.saturating_add(1)
-        } else {
-            self.underruns
-        }
     }
 }

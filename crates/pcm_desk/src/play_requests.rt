@@ -2,11 +2,10 @@
 
 ghost use Rattle.std.specs.Prelude.{◌≡◌, pos, ◌+◌, ◌*◌, ◌^◌, ◌<◌, ◌≤◌, ◌+ℤ◌, ◌≤ℤ◌};
 ghost use Rattle.pcm_format.specs.Frames.{frame_bytes};
-ghost use Rattle.pcm_rate.specs.Rates.{IsRatio};
 ghost use Rattle.pcm_desk.specs.PlayBooks.{played_of};
 ghost use Rattle.pcm_desk.specs.Here.{held_most};
 ghost use Rattle.pcm_desk.specs.PlaySafe.{CanTellDelay, IsPlayCounted, IsFilled};
-ghost use Rattle.pcm_desk.specs.PlayRequests.{delay_of, device_holds, mark_of, still_to_pass, play_ask, play_posted, play_roused_in, play_set_trigger, play_stopped_in, play_tell_errors, play_triggered, play_with_opening, set_volume};
+ghost use Rattle.pcm_desk.specs.PlayRequests.{delay_of, device_holds, still_to_pass, play_ask, play_posted, play_roused_in, play_set_trigger, play_stopped_in, play_tell_errors, play_triggered, play_with_opening, set_volume};
 
 use crate::{Here, Opening, PlayBook, PlayState, Turn};
 use pcm_oss::{Answer, Errno, Request, is_volume};
@@ -76,22 +75,16 @@ impl PlayBook {
         if !self.is_started() {
             return 0;
         }
-        let frames = still_to_pass(here.passed, self.mark(rate, here.mixed));
+        // The position after the frames of the mix that the run may sound in so far.
+        let mark = if self.is_draining() && self.has_given_all(rate) {
+            self.last
+        } else {
+            here.mixed
+        };
+        let frames = still_to_pass(here.passed, mark);
         let settings = self.opening.settings;
         let lasting = frames * u64::from(settings.rate) / u64::from(mix_rate);
         lasting as u32 * settings.frame_bytes() as u32
-    }
-
-    // The position after the frames of the mix that the run may sound in so far.
-    fn mark(&self, rate: Rate, mixed: u64) -> u64
-        requires { IsRatio rate }
-        ensures { result ≡ mark_of rate mixed self.now }
-    {
-        if self.is_draining() && self.has_given_all(rate) {
-            self.last
-        } else {
-            mixed
-        }
     }
 
     // The bytes that the device has taken since the opening or its last halt.

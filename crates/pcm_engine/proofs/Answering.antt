@@ -2,21 +2,12 @@
 use Rattle.std.proofs.Common.{rules, ◌≡◌, ℕ, ◌<◌, List, [], length, get_or, Result, Err, refl, sym, ap, ◌∙◌, subst}
 use Rattle.std.specs.Prelude.{All, OnErr}
 use Rattle.std.proofs.lemmas.Result.{on_err_weaker}
-use Rattle.pcm_oss.specs.declared.reply.Answer.{Answer}
-use Rattle.pcm_oss.specs.declared.reply.Errno.{Errno}
+use Rattle.pcm_engine.specs.Types.{Answer, Device, Errno, Filters, Kept, Kind, MapBook, PlayBook, RecordBook, Turn}
 use Rattle.pcm_oss.specs.Replies.{bytes_due}
 use Rattle.pcm_sequence.specs.declared.fixed.Fixed.{Fixed}
 use Rattle.pcm_sequence.specs.Fixed.{fixed_items}
 use Rattle.pcm_sequence.proofs.Items.{item-kept}
-use Rattle.pcm_feeder.specs.declared.kind.Kind.{Kind}
-use Rattle.pcm_feeder.specs.Filters.{Filters}
-use Rattle.pcm_feeder.specs.Kept.{Kept}
-use Rattle.pcm_desk.specs.declared.device.Device.{Device}
 use Rattle.pcm_desk.specs.Device.{DeviceSeen, seen}
-use Rattle.pcm_desk.specs.declared.play_book.PlayBook.{PlayBook}
-use Rattle.pcm_desk.specs.declared.record_book.RecordBook.{RecordBook}
-use Rattle.pcm_desk.specs.declared.map_book.MapBook.{MapBook}
-use Rattle.pcm_desk.specs.declared.turn.Turn.{Turn}
 use Rattle.pcm_desk.specs.Channels.{Mapped, Playing, Recording}
 use Rattle.pcm_desk.specs.Desk.{Desk, DeskTurn, map_at, play_at, record_at, refusing, with_channel_at}
 use Rattle.pcm_play.specs.declared.channel.PlayChannelOf.{PlayChannelOf}

@@ -1,20 +1,14 @@
 -- An event is applied: what its call says of a parent and descriptors, and that they are in order after it.
 use Rattle.std.proofs.Common.{◌≡◌, ℕ, ℤ, ◌+◌, ◌*◌, ◌≤◌, List, [], length, Result, Ok, Err, refl, sym, ap, ◌∙◌, subst, arith}
 use Rattle.std.specs.Prelude.{IsErr, OnErr}
-use Rattle.pcm_oss.specs.declared.event.Event.{Event}
+use Rattle.pcm_engine.specs.Types.{Answer, Device, Errno, Event, Filters, Kept, Kind}
 use Rattle.pcm_oss.specs.declared.event.Event.TheVariants.{Read, Mixer, Intr}
 use Rattle.pcm_sequence.specs.Fixed.{fixed_len}
 use Rattle.pcm_format.specs.Frames.{Frame}
 use Rattle.pcm_format.specs.Layouts.{channels_of}
 use Rattle.pcm_oss.specs.declared.mix_request.MixRequest.{MixRequest}
-use Rattle.pcm_oss.specs.declared.reply.Answer.{Answer}
-use Rattle.pcm_oss.specs.declared.reply.Errno.{Errno}
 use Rattle.pcm_oss.specs.Replies.{Reply}
-use Rattle.pcm_feeder.specs.declared.kind.Kind.{Kind}
-use Rattle.pcm_feeder.specs.Filters.{Filters}
-use Rattle.pcm_feeder.specs.Kept.{Kept}
 use Rattle.pcm_mixdev.specs.Mixers.{mixer_after, mixer_reply}
-use Rattle.pcm_desk.specs.declared.device.Device.{Device}
 use Rattle.pcm_desk.specs.Device.{DeviceSeen, mixed_for, mixed_slots, seen, unfiltered}
 use Rattle.pcm_desk.specs.Desk.{Desk}
 use Rattle.pcm_desk.specs.Own.{HoldApart}

@@ -6,23 +6,17 @@ use Rattle.std.proofs.lemmas.Bool.Decides.{nat_tests}
 use Rattle.std.proofs.lemmas.List.{replicate-append-replicate}
 use Rattle.std.proofs.lemmas.List.Sums.{fold-append}
 use Rattle.pcm_oss.specs.declared.event.Event.TheVariants.{Intr}
-use Rattle.pcm_wave.specs.declared.pool.Pool.{Pool}
+use Rattle.pcm_engine.specs.Types.{Gain, MapBook, PlayBook, PlayState, Pool, Rate, RunState}
 use Rattle.pcm_format.specs.declared.layout.Layout.{Layout}
 use Rattle.pcm_format.specs.Formats.{bits_of}
 use Rattle.pcm_format.specs.Layouts.{channels_of}
 use Rattle.pcm_format.specs.Frames.{Frame}
 use Rattle.pcm_format.proofs.Ranges.{flat_map-range-same, range-add}
-use Rattle.pcm_rate.specs.declared.rate.Rate.{Rate}
-use Rattle.pcm_feeder.specs.declared.stage.Gain.{Gain}
 use Rattle.pcm_feeder.specs.Layouts.{at_gain}
 use Rattle.pcm_feeder.specs.Fades.{faded}
 use Rattle.pcm_mixdev.specs.Mixers.{Levels, master_gain, slot_gain}
-use Rattle.pcm_desk.specs.declared.play_book.PlayBook.{PlayBook}
-use Rattle.pcm_desk.specs.declared.play_book.PlayState.{PlayState}
 use Rattle.pcm_desk.specs.declared.play_book.PlayState.TheVariants.{Free, Setup, Running, Draining}
 use Rattle.pcm_desk.specs.PlayBooks.{finished, is_over, is_play_free, play_settled, refilled}
-use Rattle.pcm_desk.specs.declared.map_book.MapBook.{MapBook}
-use Rattle.pcm_desk.specs.declared.run_state.RunState.{RunState}
 use Rattle.pcm_desk.specs.declared.run_state.RunState.TheVariants as run_states
 use Rattle.pcm_desk.specs.RunStates.{is_unheld}
 use Rattle.pcm_desk.specs.MapBooks.{map_refilled_in}

@@ -1,8 +1,7 @@
 -- An event of a script is what a call asks, wherever its bytes stand; and what an event brings.
 use Rattle.std.proofs.Common.{◌≡◌, ℕ, length, drop, length-drop, length-take-le, refl, sym, subst, arith}
-use Rattle.pcm_oss.specs.declared.event.Event.{Event}
+use Rattle.pcm_engine.specs.Types.{Event, Pool}
 use Rattle.pcm_oss.specs.declared.event.Event.TheVariants.{Open, Write, Poke, Read, StartGroup, Intr}
-use Rattle.pcm_wave.specs.declared.pool.Pool.{Pool}
 use Rattle.pcm_wave.specs.declared.pool.Source.{Source}
 use Rattle.pcm_wave.specs.declared.pool.Source.TheVariants.{Inline}
 use Rattle.pcm_wave.specs.Pools.{source_bytes}

@@ -1,17 +1,12 @@
 -- What a step does with an event, it does as a script has it that names the event.
 use Rattle.std.proofs.Common.{◌≡◌, ℕ, List, [], ◌∷◌, ◌++◌, ℤ, length, take, refl, sym, ap, ◌∙◌, subst}
 use Rattle.std.specs.Prelude.{IsOk}
-use Rattle.pcm_oss.specs.declared.event.Event.{Event}
+use Rattle.pcm_engine.specs.Types.{Device, Event, Filters, Kept, Kind, Pool}
 use Rattle.pcm_oss.specs.declared.event.Event.TheVariants.{StartGroup}
 use Rattle.pcm_oss.specs.Replies.{Reply}
-use Rattle.pcm_wave.specs.declared.pool.Pool.{Pool}
 use Rattle.pcm_wave.specs.Pools.{IsCaptureIn}
 use Rattle.pcm_sequence.specs.Fixed.{fixed_items, with_fixed_items}
 use Rattle.pcm_sequence.proofs.Items.{items-count, items-written}
-use Rattle.pcm_feeder.specs.declared.kind.Kind.{Kind}
-use Rattle.pcm_feeder.specs.Filters.{Filters}
-use Rattle.pcm_feeder.specs.Kept.{Kept}
-use Rattle.pcm_desk.specs.declared.device.Device.{Device}
 use Rattle.pcm_desk.specs.Device.{DeviceSeen, device_settings, seen}
 use Rattle.pcm_desk.specs.Desk.{Desk, after}
 use Rattle.pcm_desk.specs.Own.{MembersWait}

@@ -4,11 +4,9 @@ use Rattle.std.proofs.lemmas.List.{take_all, take-take, append-nil, length-drop}
 use Rattle.std.proofs.Math.Seq.{take-append-add}
 use Rattle.std.proofs.lemmas.Bool.{cases_lt}
 use Rattle.std.proofs.lemmas.Bool.Decides.{nat_tests}
-use Rattle.pcm_wave.specs.declared.pool.Pool.{Pool}
+use Rattle.pcm_engine.specs.Types.{MapBook, PlayBook, Pool}
 use Rattle.pcm_wave.specs.declared.pool.Source.{Source}
 use Rattle.pcm_wave.specs.Pools.{bytes_at, source_bytes}
-use Rattle.pcm_desk.specs.declared.map_book.MapBook.{MapBook}
-use Rattle.pcm_desk.specs.declared.play_book.PlayBook.{PlayBook}
 use Rattle.pcm_desk.specs.Device.{DeviceSeen}
 use Rattle.pcm_desk.specs.RunStates.{is_running}
 use Rattle.pcm_desk.specs.MapBooks.{taken_of}

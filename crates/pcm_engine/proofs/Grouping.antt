@@ -2,22 +2,17 @@
 use Rattle.std.proofs.Common.{◌≡◌, ℕ, Bool, true, false, cond, Option, Some, Result, Ok, Err, refl, ap, ◌∙◌, None, sym}
 use Rattle.std.specs.Prelude.{not}
 use Rattle.std.specs.Result.{IsErr, IsErrAnd}
-use Rattle.pcm_oss.specs.declared.reply.Answer.{Answer}
+use Rattle.pcm_engine.specs.Types.{Answer, Errno, Groups, Held, Request, Turn}
 use Rattle.pcm_oss.specs.declared.reply.Answer.TheVariants.{Done, Number}
-use Rattle.pcm_oss.specs.declared.reply.Errno.{Errno}
 use Rattle.pcm_oss.specs.declared.reply.Errno.TheVariants.{Busy, Inval}
 use Rattle.pcm_group.specs.Groups.{all_in, is_used, joining, may_join, groups_joined, with_group}
-use Rattle.pcm_desk.specs.declared.device.Held.{Held}
 use Rattle.pcm_desk.specs.Device.{DeviceSeen}
 use Rattle.pcm_desk.specs.PlayBooks.{play_is_ready}
 use Rattle.pcm_desk.specs.Channels.{join_result, rests, Channel, member_refusal, own_join, own_request}
 use Rattle.pcm_desk.specs.Desk.{Desk, DeskTurn, group_started, refusing, start_on, start_turn, channel_at, channel_turn, desk_here, is_member, left_by, with_channel_at}
 use Rattle.pcm_desk.proofs.Channels.{put-again}
-use Rattle.pcm_desk.specs.declared.turn.Turn.{Turn}
 use Rattle.pcm_engine.specs.Desks.{channel_asked}
-use Rattle.pcm_group.specs.declared.sync_groups.Groups.{Groups}
 use Rattle.pcm_oss.specs.declared.event.Event.TheVariants.{Ioctl, Join}
-use Rattle.pcm_oss.specs.declared.request.Request.{Request}
 use Rattle.pcm_oss.specs.declared.request.Request.TheVariants.{SetTrigger, Sync}
 
 -- ---- a request

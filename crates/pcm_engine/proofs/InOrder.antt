@@ -5,15 +5,8 @@ use Rattle.std.proofs.lemmas.List.Elements.{All-map}
 use Rattle.std.proofs.lemmas.List.{get_or-map, length-map}
 use Rattle.std.proofs.Math.Nat.{mul-le-mul_right}
 use Rattle.pcm_oss.proofs.Limits.{usual-fragments}
-use Rattle.pcm_feeder.specs.declared.kind.Kind.{Kind}
-use Rattle.pcm_feeder.specs.Filters.{Filters}
-use Rattle.pcm_feeder.specs.Kept.{Kept}
+use Rattle.pcm_engine.specs.Types.{Device, Filters, Here, Kept, Kind, MapBook, PlayBook, PlayState, Rate, RecordBook}
 use Rattle.pcm_feeder.specs.Limits.{IsRate}
-use Rattle.pcm_desk.specs.declared.play_book.PlayBook.{PlayBook}
-use Rattle.pcm_desk.specs.declared.device.Device.{Device}
-use Rattle.pcm_desk.specs.declared.map_book.MapBook.{MapBook}
-use Rattle.pcm_desk.specs.declared.record_book.RecordBook.{RecordBook}
-use Rattle.pcm_desk.specs.declared.here.Here.{Here}
 use Rattle.pcm_desk.specs.Here.{IsHere}
 use Rattle.pcm_desk.specs.Device.{DeviceSeen, IsDevice, IsInLimits, passed_for, ring_frames, seen, mix_frames, unfiltered, parent_plan, parent_rate, play_plan_between}
 use Rattle.pcm_desk.specs.Channels.{map_rate_at, play_rate_at, record_rate_at}
@@ -46,11 +39,9 @@ use Rattle.pcm_engine.proofs.Pace.{ReliesOn, at-slot, near-rate}
 use Rattle.pcm_engine.specs.Engines.{AreReady, BooksAreHere, RingsHold, desk_of, device_of}
 use Rattle.pcm_format.specs.Frames.{frame_bytes}
 use Rattle.pcm_format.proofs.Streams.{frame_bytes-most}
-use Rattle.pcm_rate.specs.declared.rate.Rate.{Rate}
 use Rattle.pcm_rate.specs.Rates.{need}
 use Rattle.pcm_chain.specs.Counts.{IsNear}
 use Rattle.pcm_chain.proofs.Counting.{need-near, rate-near}
-use Rattle.pcm_desk.specs.declared.play_book.PlayState.{PlayState}
 use Rattle.pcm_desk.specs.declared.play_book.PlayState.TheVariants.{Running, Draining}
 use Rattle.pcm_vchan.specs.declared.parent.ParentOf.{ParentOf}
 use Rattle.pcm_engine.specs.declared.limits.TheConstants.{LIFE}

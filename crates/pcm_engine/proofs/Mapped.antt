@@ -4,21 +4,11 @@ use Rattle.std.specs.Prelude.{All, nat_lt, not, ◌&&◌, ◌||◌}
 use Rattle.std.proofs.lemmas.Bool.{cases_eq, or_parts}
 use Rattle.std.proofs.lemmas.Bool.Decides.{nat_tests}
 use Rattle.std.proofs.lemmas.List.{append-nil, get_or-map, get_or_default, take-take, take_all}
-use Rattle.pcm_format.specs.declared.settings.Settings.{Settings}
+use Rattle.pcm_engine.specs.Types.{Device, Event, Filters, Held, Kept, Kind, MapBook, Pool, Rate, RunState, Settings}
 use Rattle.pcm_format.specs.Frames.{frame_bytes}
-use Rattle.pcm_rate.specs.declared.rate.Rate.{Rate}
 use Rattle.pcm_rate.specs.Rates.{need}
-use Rattle.pcm_oss.specs.declared.event.Event.{Event}
 use Rattle.pcm_oss.specs.declared.event.Event.TheVariants.{Poke, Intr}
-use Rattle.pcm_wave.specs.declared.pool.Pool.{Pool}
-use Rattle.pcm_feeder.specs.declared.kind.Kind.{Kind}
-use Rattle.pcm_feeder.specs.Filters.{Filters}
-use Rattle.pcm_feeder.specs.Kept.{Kept}
-use Rattle.pcm_desk.specs.declared.device.Device.{Device}
 use Rattle.pcm_oss.specs.declared.event.Way.TheVariants.{Map}
-use Rattle.pcm_desk.specs.declared.device.Held.{Held}
-use Rattle.pcm_desk.specs.declared.map_book.MapBook.{MapBook}
-use Rattle.pcm_desk.specs.declared.run_state.RunState.{RunState}
 use Rattle.pcm_desk.specs.declared.run_state.RunState.TheVariants.{Free, Setup, Running}
 use Rattle.pcm_desk.specs.Device.{DeviceSeen, device_filters, seen}
 use Rattle.pcm_desk.specs.RunStates.{is_unheld, is_running}

@@ -4,17 +4,9 @@ use Rattle.std.proofs.lemmas.List.{length-map}
 use Rattle.pcm_sequence.specs.declared.fixed.Fixed.{Fixed}
 use Rattle.pcm_sequence.specs.Fixed.{fixed_items}
 use Rattle.pcm_sequence.proofs.Items.{items-count}
-use Rattle.pcm_format.specs.declared.settings.Settings.{Settings}
-use Rattle.pcm_feeder.specs.declared.kind.Kind.{Kind}
-use Rattle.pcm_feeder.specs.Filters.{Filters}
-use Rattle.pcm_feeder.specs.Kept.{Kept}
-use Rattle.pcm_oss.specs.declared.event.Way.{Way}
+use Rattle.pcm_engine.specs.Types.{Errno, Filters, Kept, Kind, MapBook, PlayBook, RecordBook, Settings, Way}
 use Rattle.pcm_oss.specs.declared.event.Way.TheVariants.{Play, Record, Map}
 use Rattle.pcm_oss.specs.declared.reply.Answer.TheVariants.{Number}
-use Rattle.pcm_oss.specs.declared.reply.Errno.{Errno}
-use Rattle.pcm_desk.specs.declared.play_book.PlayBook.{PlayBook}
-use Rattle.pcm_desk.specs.declared.record_book.RecordBook.{RecordBook}
-use Rattle.pcm_desk.specs.declared.map_book.MapBook.{MapBook}
 use Rattle.pcm_desk.specs.PlayBooks.{play_begun}
 use Rattle.pcm_desk.specs.RecordBooks.{record_begun}
 use Rattle.pcm_desk.specs.MapBooks.{map_begun}

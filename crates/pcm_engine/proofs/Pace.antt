@@ -5,17 +5,13 @@ use Rattle.std.proofs.lemmas.Bool.{and_parts, cases_lt, eqb-true}
 use Rattle.std.proofs.lemmas.List.{get_or_default, get_or_past}
 use Rattle.std.proofs.lemmas.List.Elements.{All-map, All-set}
 use Rattle.std.proofs.Math.Nat.{mul-le-mul_right}
-use Rattle.pcm_format.specs.declared.settings.Settings.{Settings}
+use Rattle.pcm_engine.specs.Types.{Errno, Event, Held, Here, MapBook, PlayBook, PlayState, Rate, RecordBook, Request, RunState, Settings, Turn, Way}
 use Rattle.pcm_format.specs.Frames.{frame_bytes}
 use Rattle.pcm_format.proofs.Streams.{frame_bytes-most}
-use Rattle.pcm_oss.specs.declared.event.Event.{Event}
 use Rattle.pcm_oss.specs.declared.event.Event.TheVariants.{Open, Write, Poke, Read, Ioctl, Join, StartGroup, Close, Mixer, Intr}
-use Rattle.pcm_oss.specs.declared.event.Way.{Way}
 use Rattle.pcm_oss.specs.declared.reply.Answer.TheVariants.{Got, Number}
 use Rattle.pcm_oss.specs.declared.reply.Errno.TheVariants.{Again, Busy, Inval}
-use Rattle.pcm_oss.specs.declared.request.Request.{Request}
 use Rattle.pcm_oss.specs.declared.request.Request.TheVariants.{SetTrigger}
-use Rattle.pcm_rate.specs.declared.rate.Rate.{Rate}
 use Rattle.pcm_rate.specs.Rates.{len}
 use Rattle.pcm_rate.proofs.Counts.{below_div_up}
 use Rattle.pcm_feeder.specs.Limits.{IsRate}
@@ -24,16 +20,8 @@ use Rattle.pcm_chain.specs.Counts.{IsNear}
 use Rattle.pcm_chain.proofs.Counting.{rate-near}
 use Rattle.pcm_group.specs.Groups.{change_in}
 use Rattle.pcm_group.proofs.Members.{get_or-change_in, length-change_in, used-some}
-use Rattle.pcm_desk.specs.declared.device.Held.{Held}
-use Rattle.pcm_desk.specs.declared.here.Here.{Here}
-use Rattle.pcm_desk.specs.declared.map_book.MapBook.{MapBook}
-use Rattle.pcm_desk.specs.declared.run_state.RunState.{RunState}
 use Rattle.pcm_desk.specs.declared.run_state.RunState.TheVariants as run_states
-use Rattle.pcm_desk.specs.declared.play_book.PlayBook.{PlayBook}
-use Rattle.pcm_desk.specs.declared.play_book.PlayState.{PlayState}
 use Rattle.pcm_desk.specs.declared.play_book.PlayState.TheVariants.{Free, Setup, Primed, Running, Draining}
-use Rattle.pcm_desk.specs.declared.record_book.RecordBook.{RecordBook}
-use Rattle.pcm_desk.specs.declared.turn.Turn.{Turn}
 use Rattle.pcm_desk.specs.Device.{DeviceSeen, IsDevice, mix_settings, mixed_for, passed_for, play_plan_between}
 use Rattle.pcm_desk.specs.BookTurns.{doing, refused, telling}
 use Rattle.pcm_desk.specs.Openings.{fragment_bytes, ring_bytes}
@@ -62,7 +50,6 @@ use Rattle.pcm_engine.specs.Engines.{MapBooksAreSafe, RecordsAreSafe}
 use Rattle.pcm_engine.specs.Life.{KeepsPace, MapKeepsPace, PlayKeepsPace, RecordKeepsPace}
 use Rattle.pcm_desk.proofs.Channels.{channel_named}
 use Rattle.pcm_oss.specs.declared.event.Way.TheVariants.{Map, Play, Record}
-use Rattle.pcm_oss.specs.declared.reply.Errno.{Errno}
 
 -- ---- books that play
 

@@ -7,16 +7,10 @@ use Rattle.std.specs.List.{range_with_len}
 use Rattle.std.proofs.lemmas.List.Elements.{All-map}
 use Rattle.std.proofs.lemmas.List.Folds.{flat_map-map}
 use Rattle.std.proofs.lemmas.Simd.{map-map}
-use Rattle.pcm_oss.specs.declared.event.Event.{Event}
+use Rattle.pcm_engine.specs.Types.{Event, Filters, Kept, Kind, MapBook, PlayBook, Pool}
 use Rattle.pcm_oss.specs.declared.event.Event.TheVariants.{Write, Intr}
-use Rattle.pcm_wave.specs.declared.pool.Pool.{Pool}
-use Rattle.pcm_feeder.specs.declared.kind.Kind.{Kind}
-use Rattle.pcm_feeder.specs.Kept.{Kept}
-use Rattle.pcm_feeder.specs.Filters.{Filters}
 use Rattle.pcm_feeder.specs.Fades.{faded}
 use Rattle.pcm_mixdev.specs.Mixers.{Levels, master_gain, slot_gain}
-use Rattle.pcm_desk.specs.declared.map_book.MapBook.{MapBook}
-use Rattle.pcm_desk.specs.declared.play_book.PlayBook.{PlayBook}
 use Rattle.pcm_desk.specs.Device.{DeviceSeen, device_frame_bytes, device_settings, device_filters, mix_settings, parent_plan, ring_frames, seen, full_frame, mixed_for}
 use Rattle.pcm_desk.specs.Channels.{mixed_by}
 use Rattle.pcm_desk.specs.Desk.{Desk, after, play_at, play_unopened}

@@ -4,28 +4,20 @@ use Rattle.std.specs.List.{flat_map}
 use Rattle.std.proofs.lemmas.List.{get_or-map, get_or-replicate, length-map, length-replicate, same_lists, replicate-append-replicate, append-nil}
 use Rattle.std.proofs.lemmas.List.Concat.{flat_map-append}
 use Rattle.pcm_format.specs.declared.format.Format.{Format}
-use Rattle.pcm_format.specs.declared.settings.Settings.{Settings}
+use Rattle.pcm_engine.specs.Types.{Device, Filters, Kept, Kind, MapBook, PlayBook, Pool, RecordBook, Settings}
 use Rattle.pcm_format.specs.Layouts.{channels_of}
 use Rattle.pcm_format.specs.Samples.{spelled}
 use Rattle.pcm_format.specs.Frames.{frame_bytes, spelled_frames}
-use Rattle.pcm_feeder.specs.declared.kind.Kind.{Kind}
-use Rattle.pcm_feeder.specs.Filters.{Filters}
-use Rattle.pcm_feeder.specs.Kept.{Kept}
 use Rattle.pcm_group.specs.Groups.{no_groups}
 use Rattle.pcm_mixdev.specs.Mixers.{full_mixer}
-use Rattle.pcm_desk.specs.declared.play_book.PlayBook.{PlayBook}
-use Rattle.pcm_desk.specs.declared.device.Device.{Device}
 use Rattle.pcm_desk.specs.declared.limits.TheConstants.{DESCRIPTORS}
 use Rattle.pcm_desk.specs.Device.{IsDevice, seen}
-use Rattle.pcm_desk.specs.declared.map_book.MapBook.{MapBook}
 use Rattle.pcm_desk.specs.MapBooks.{taken_of}
 use Rattle.pcm_desk.specs.Desk.{desk_at_start, map_at, map_unopened, play_at, play_unopened, record_at, record_unopened}
 use Rattle.pcm_sound.specs.Areas.{silent_area}
 use Rattle.pcm_sound.specs.Story.{story_at_start}
 use Rattle.pcm_sound.specs.DeviceList.{silence_in}
-use Rattle.pcm_wave.specs.declared.pool.Pool.{Pool}
 use Rattle.pcm_wave.specs.Pools.{captured_frames}
-use Rattle.pcm_desk.specs.declared.record_book.RecordBook.{RecordBook}
 use Rattle.pcm_sound.proofs.Recorded.{recordings-start}
 use Rattle.pcm_sound.proofs.Stories.{valid-start, get_or-same}
 use Rattle.pcm_vchan.specs.declared.parent.ParentOf.{ParentOf}

@@ -2,13 +2,8 @@
 use Rattle.std.proofs.Common.{◌≡◌, ◌∙◌, ℕ, ℤ, List, All, Result, drop, refl, sym, ap, subst, ◌<◌, [], length, get_or, map, min, take, Option, Some, None, inl, inr, arith}
 use Rattle.std.proofs.lemmas.Bool.{cases_lt}
 use Rattle.std.proofs.lemmas.List.{get_or-map, get_or_default, length-map, take_all}
-use Rattle.pcm_oss.specs.declared.event.Event.{Event}
-use Rattle.pcm_oss.specs.declared.reply.Answer.{Answer}
-use Rattle.pcm_oss.specs.declared.reply.Errno.{Errno}
+use Rattle.pcm_engine.specs.Types.{Answer, Errno, Event, Filters, Held, Kept, Kind, RecordBook, Way}
 use Rattle.pcm_oss.specs.Replies.{Reply}
-use Rattle.pcm_feeder.specs.declared.kind.Kind.{Kind}
-use Rattle.pcm_feeder.specs.Filters.{Filters}
-use Rattle.pcm_feeder.specs.Kept.{Kept}
 use Rattle.pcm_desk.specs.Device.{DeviceSeen, IsInLimits}
 use Rattle.pcm_desk.specs.Desk.{Desk, after, held_by, channel_at}
 use Rattle.pcm_desk.specs.Own.{IsIsolated, MembersWait, slots_of}
@@ -32,10 +27,7 @@ use Rattle.pcm_engine.proofs.InOrder.{books-rates, ready-all}
 use Rattle.pcm_engine.proofs.Mapped.{maps-ready}
 use Rattle.pcm_engine.proofs.Recording.{recorders-ready, record_at-books}
 use Rattle.pcm_format.specs.Frames.{Frame}
-use Rattle.pcm_oss.specs.declared.event.Way.{Way}
 use Rattle.pcm_oss.specs.declared.event.Way.TheVariants.{Play, Record, Map}
-use Rattle.pcm_desk.specs.declared.device.Held.{Held}
-use Rattle.pcm_desk.specs.declared.record_book.RecordBook.{RecordBook}
 use Rattle.pcm_desk.specs.RecordBooks.{record_fill_of}
 use Rattle.pcm_desk.specs.Channels.{by_way}
 use Rattle.pcm_record.specs.declared.channel.RecordChannelOf.{RecordChannelOf}

@@ -2,22 +2,13 @@
 use Rattle.std.proofs.Common.{Ok, Err, ◌≡◌, ◌+◌, ◌-◌, ℕ, ◌<◌, ◌≤◌, false, cond, eqb, List, length, get_or, min, take, drop, Option, Some, None, Result, refl, sym, ap, ◌∙◌, arith, Bool, true}
 use Rattle.std.specs.Prelude.{IsOk, is_some, not}
 use Rattle.std.proofs.lemmas.List.{length-map}
-use Rattle.pcm_oss.specs.declared.event.Way.{Way}
+use Rattle.pcm_engine.specs.Types.{Answer, Device, Errno, Event, Held, MapBook, PlayBook, RecordBook, Request, Settings, Turn, Way}
 use Rattle.pcm_oss.specs.declared.event.TheConstants.{SLOTS}
 use Rattle.pcm_sequence.proofs.Items.{items-count}
 use Rattle.pcm_oss.specs.declared.event.Way.TheVariants.{Play, Record, Map}
-use Rattle.pcm_oss.specs.declared.reply.Answer.{Answer}
 use Rattle.pcm_oss.specs.declared.reply.Answer.TheVariants.{Number}
-use Rattle.pcm_oss.specs.declared.reply.Errno.{Errno}
 use Rattle.pcm_oss.specs.declared.reply.Errno.TheVariants.{BadF, Exist, Inval}
-use Rattle.pcm_format.specs.declared.settings.Settings.{Settings}
-use Rattle.pcm_desk.specs.declared.play_book.PlayBook.{PlayBook}
-use Rattle.pcm_desk.specs.declared.device.Device.{Device}
-use Rattle.pcm_desk.specs.declared.device.Held.{Held}
-use Rattle.pcm_desk.specs.declared.record_book.RecordBook.{RecordBook}
 use Rattle.pcm_desk.specs.Device.{DeviceSeen}
-use Rattle.pcm_desk.specs.declared.turn.Turn.{Turn}
-use Rattle.pcm_desk.specs.declared.map_book.MapBook.{MapBook}
 use Rattle.pcm_desk.specs.RunStates.{is_unheld}
 use Rattle.pcm_desk.specs.RecordBooks.{record_fill_of}
 use Rattle.pcm_desk.specs.Channels.{Mapped, Playing, Recording, by_way}
@@ -40,9 +31,7 @@ use Rattle.pcm_engine.specs.Descriptors.{holding, is_way, shut, slot_of}
 use Rattle.pcm_engine.specs.Desks.{desk_with, channel_asked, closed_held}
 use Rattle.pcm_engine.specs.Steps.{bytes_read, channel_read}
 use Rattle.pcm_desk.proofs.Channels.{put-again}
-use Rattle.pcm_oss.specs.declared.event.Event.{Event}
 use Rattle.pcm_oss.specs.declared.event.Event.TheVariants.{Close, Poke, Read, Write}
-use Rattle.pcm_oss.specs.declared.request.Request.{Request}
 use Rattle.pcm_wave.specs.declared.pool.Source.{Source}
 
 -- ---- where a descriptor's channel is

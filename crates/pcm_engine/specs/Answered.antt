@@ -1,16 +1,9 @@
 -- What a call of a client needs, and what its answer leaves.
 use Rattle.std.specs.Prelude.{◌≡◌, ◌+◌, ◌^◌, ◌<◌, ℕ, List, [], All, OnErr, Result}
-use Rattle.pcm_feeder.specs.declared.kind.Kind.{Kind}
-use Rattle.pcm_feeder.specs.Filters.{Filters}
-use Rattle.pcm_feeder.specs.Kept.{Kept}
+use Rattle.pcm_engine.specs.Types.{Answer, Errno, Event, Filters, Held, Here, Kept, Kind}
 use Rattle.pcm_sequence.specs.Fixed.{fixed_len}
 use Rattle.pcm_oss.specs.declared.event.Way.TheVariants.{Play, Record, Map}
-use Rattle.pcm_oss.specs.declared.reply.Answer.{Answer}
-use Rattle.pcm_oss.specs.declared.reply.Errno.{Errno}
 use Rattle.pcm_oss.specs.Replies.{bytes_due}
-use Rattle.pcm_desk.specs.declared.device.Held.{Held}
-use Rattle.pcm_desk.specs.declared.here.Here.{Here}
-use Rattle.pcm_desk.specs.declared.limits.TheConstants.{DESCRIPTORS}
 use Rattle.pcm_desk.specs.Device.{DeviceSeen, seen}
 use Rattle.pcm_desk.specs.Desk.{Desk, DeskTurn}
 use Rattle.pcm_desk.specs.Here.{IsHere}
@@ -19,6 +12,7 @@ use Rattle.pcm_play.specs.Channels.{IsPlayHere}
 use Rattle.pcm_vchan.specs.declared.parent.ParentOf.{ParentOf}
 use Rattle.pcm_vchan.specs.Parents.{play_channels, untouched, AreServed, EachMapKeeps, EachPlayMoves, EachRecordMoves, HasBus, KeepsOutput, TakenFit}
 use Rattle.pcm_engine.specs.declared.descriptors.Descriptors.{Descriptors}
+use Rattle.pcm_engine.specs.Brought.{IsAllowed}
 use Rattle.pcm_engine.specs.Desks.{ChangesBy, IsAt, RepliesBy, desk_with}
 use Rattle.pcm_engine.specs.Invariants.{AreOwn}
 
@@ -34,16 +28,16 @@ pub record CanBeAsked {B : Type 0} (kind : B → Kind) (kept : B → Kept) (filt
   pub count : All (λ channel. channel.book.done + channel.book.written < 2 ^ 63) (play_channels parent)
   pub taken : TakenFit parent
 
--- one asks by a descriptor that there can be
-pub record AsksBy {B : Type 0} (kind : B → Kind) (kept : B → Kept) (filters : Filters) (place : Here) (fd : ℕ) (parent : ParentOf B) (descriptors : Descriptors) : Type 0 where
-  pub within : fd < DESCRIPTORS
+-- and this event, which keeps the limits of the device, is what one asks
+pub record AsksBy {B : Type 0} (kind : B → Kind) (kept : B → Kept) (filters : Filters) (place : Here) (event : Event) (parent : ParentOf B) (descriptors : Descriptors) : Type 0 where
+  pub within : IsAllowed (seen filters parent.device) event
   pub able : CanBeAsked kind kept filters place parent descriptors
 
 -- whichever the filters are, and wherever the mix and the device are
-pub record IsCalledBy {B : Type 0} (kind : B → Kind) (kept : B → Kept) (fd : ℕ) (parent : ParentOf B) (descriptors : Descriptors) : Type 0 where
+pub record IsCalledBy {B : Type 0} (kind : B → Kind) (kept : B → Kept) (event : Event) (parent : ParentOf B) (descriptors : Descriptors) : Type 0 where
   pub filters : Filters
   pub place : Here
-  pub asks : AsksBy kind kept filters place fd parent descriptors
+  pub asks : AsksBy kind kept filters place event parent descriptors
 
 -- The channels of a parent are ready by some filters, and no count comes near its end.
 pub record IsServed {B : Type 0} (kind : B → Kind) (kept : B → Kept) (parent : ParentOf B) : Type 0 where

@@ -1,12 +1,9 @@
 -- What one event leaves of a parent and descriptors.
 use Rattle.std.specs.Prelude.{◌≡◌, ℕ, ℤ, List, IsErr, length}
-use Rattle.pcm_oss.specs.declared.event.Event.{Event}
+use Rattle.pcm_engine.specs.Types.{Event, Filters, Kept, Kind}
 use Rattle.pcm_oss.specs.declared.event.Event.TheVariants.{Read, Intr}
 use Rattle.pcm_oss.specs.Replies.{Reply}
 use Rattle.pcm_format.specs.Frames.{Frame}
-use Rattle.pcm_feeder.specs.declared.kind.Kind.{Kind}
-use Rattle.pcm_feeder.specs.Filters.{Filters}
-use Rattle.pcm_feeder.specs.Kept.{Kept}
 use Rattle.pcm_desk.specs.Device.{seen}
 use Rattle.pcm_desk.specs.Desk.{after}
 use Rattle.pcm_vchan.specs.declared.parent.ParentOf.{ParentOf}

@@ -2,9 +2,8 @@
 use Rattle.std.specs.Prelude.{◌≡◌, ℕ, ◌-◌, ◌*◌, ◌<◌, ◌≤◌, ℤ, pos, List, [], ◌++◌, length, replicate}
 use Rattle.pcm_format.specs.declared.layout.Layout.{Layout}
 use Rattle.pcm_format.specs.Layouts.{channels_of}
-use Rattle.pcm_oss.specs.declared.event.Event.{Event}
+use Rattle.pcm_engine.specs.Types.{Event, Pool}
 use Rattle.pcm_oss.specs.declared.event.Event.TheVariants.{Open, Write, Poke, Read, StartGroup, Intr}
-use Rattle.pcm_wave.specs.declared.pool.Pool.{Pool}
 use Rattle.pcm_wave.specs.declared.pool.Source.TheVariants.{Inline}
 use Rattle.pcm_wave.specs.Pools.{HasBytes, IsCaptureIn, bytes_at, captured_frames}
 use Rattle.pcm_feeder.specs.Limits.{IsRate}

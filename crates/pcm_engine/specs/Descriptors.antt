@@ -1,11 +1,7 @@
 -- What a descriptor holds, or what it is refused for.
-use Rattle.std.specs.Prelude.{ℕ, Bool, true, false, if◌then◌else◌, nat_lt, Option, Some, None, Result, Ok, Err}
-use Rattle.pcm_oss.specs.declared.event.Way.{Way}
-use Rattle.pcm_oss.specs.declared.reply.Errno.{Errno}
+use Rattle.std.specs.Prelude.{ℕ, Bool, true, false, if◌then◌else◌, Option, Some, None, Result, Ok, Err}
+use Rattle.pcm_engine.specs.Types.{Errno, Held, Way}
 use Rattle.pcm_oss.specs.declared.reply.Errno.TheVariants.{BadF, Exist, Inval}
-use Rattle.pcm_group.specs.declared.sync_groups.Groups.{Groups}
-use Rattle.pcm_group.specs.Groups.{group_at}
-use Rattle.pcm_desk.specs.declared.device.Held.{Held}
 use Rattle.pcm_desk.specs.Channels.{by_way}
 
 -- it is shut, so it may be opened
@@ -17,10 +13,6 @@ shut (Some held) = Err Exist
 abbrev pub holding : Option Held → Result Held Errno
 holding None = Err BadF
 holding (Some held) = Ok held
-
--- it is a member of a group
-abbrev pub is_member_in : Groups → Held → Bool
-is_member_in groups held = nat_lt 0 (group_at groups held.way held.slot)
 
 -- two ways are one
 abbrev pub is_way : Way → Way → Bool

@@ -1,19 +1,10 @@
 -- What a parent and descriptors are to the rules: a desk. And what a call of a client makes of it.
 use Rattle.std.specs.Prelude.{◌≡◌, ℕ, List, All, Option, None, Some, Result, slice_set, take}
 use Rattle.pcm_format.specs.Frames.{Frame}
-use Rattle.pcm_feeder.specs.declared.kind.Kind.{Kind}
-use Rattle.pcm_feeder.specs.Filters.{Filters}
-use Rattle.pcm_feeder.specs.Kept.{Kept}
-use Rattle.pcm_oss.specs.declared.event.Event.{Event}
-use Rattle.pcm_oss.specs.declared.reply.Answer.{Answer}
-use Rattle.pcm_oss.specs.declared.reply.Errno.{Errno}
+use Rattle.pcm_engine.specs.Types.{Answer, Errno, Event, Filters, Held, Here, Kept, Kind, Request, Turn}
 use Rattle.pcm_oss.specs.declared.reply.Errno.TheVariants.{BadF}
-use Rattle.pcm_oss.specs.declared.request.Request.{Request}
 use Rattle.pcm_oss.specs.Replies.{bytes_due}
-use Rattle.pcm_desk.specs.declared.device.Held.{Held}
-use Rattle.pcm_desk.specs.declared.here.Here.{Here}
 use Rattle.pcm_desk.specs.Device.{DeviceSeen, here_at, seen}
-use Rattle.pcm_desk.specs.declared.turn.Turn.{Turn}
 use Rattle.pcm_desk.specs.Channels.{Channel, own_close, own_ioctl}
 use Rattle.pcm_desk.specs.Desk.{Desk, DeskTurn, after, channel_at, desk_here, held_by, refusing, with_channel_at}
 use Rattle.pcm_play.specs.Channels.{IsPlayReady}

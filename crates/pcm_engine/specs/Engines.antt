@@ -1,15 +1,12 @@
 -- What an engine stands for, and what holds of every one.
 use Rattle.std.specs.Prelude.{◌≡◌, ◌≤◌, ◌+◌, ◌*◌, ℕ, ℤ, List, [], ◌∷◌, ◌++◌, All, IsErr, IsOk, Result, drop, length, map, take}
-use Rattle.pcm_oss.specs.declared.event.Event.{Event}
+use Rattle.pcm_engine.specs.Types.{Answer, Device, Errno, Event, Filters, Kept, Kind, Pool}
 use Rattle.pcm_oss.specs.declared.event.Event.TheVariants.{Read, StartGroup}
-use Rattle.pcm_oss.specs.declared.reply.Answer.{Answer}
-use Rattle.pcm_oss.specs.declared.reply.Errno.{Errno}
 use Rattle.pcm_oss.specs.Replies.{Reply}
 use Rattle.pcm_format.specs.Frames.{Frame}
-use Rattle.pcm_wave.specs.declared.pool.Pool.{Pool}
 use Rattle.pcm_sequence.specs.Fixed.{fixed_items}
-use Rattle.pcm_feeder.specs.declared.kind.Kind.{Kind}
-use Rattle.pcm_feeder.specs.Kept.{Kept}
+use Rattle.pcm_feeder.specs.declared.rack.RacksOf.{RacksOf}
+use Rattle.pcm_feeder.specs.Racks.{AreRacks, list_of}
 use Rattle.pcm_desk.specs.Device.{DeviceSeen, IsInLimits, device_frame_bytes, ring_frames, seen}
 use Rattle.pcm_desk.specs.Openings.{ring_bytes}
 use Rattle.pcm_desk.specs.PlaySafe.{PlayIsHere, PlayIsSafe}
@@ -64,6 +61,11 @@ StandsWithAlike kept engine = (one other : Pool) (events : List Event) → AreAl
 abbrev pub StandsWithLonger : {B : Type 0} → (B → Kept) → EngineOf B → Type 0
 StandsWithLonger kept engine = (one other : Pool) (events : List Event) → IsLonger one other → All (Fits (device_of engine) one) events
     → Stands kept engine one events → Stands kept engine other events
+
+-- An engine can be made of these: the device is within its limits with its filters, and the boxes of each rack are of their places' kinds.
+pub record CanBeMade {B : Type 0} (kind : B → Kind) (tables : Filters) (device : Device) (racks : RacksOf B) : Type 0 where
+  pub limits : IsInLimits (seen tables device)
+  pub kinds : AreRacks kind (list_of racks)
 
 -- ---- a step, whatever events the engine stood for with a pool
 

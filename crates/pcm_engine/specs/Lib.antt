@@ -9,3 +9,4 @@ pub mod Life
 pub mod Stands
 pub mod Engines
 pub mod Views
+pub mod Types

@@ -1,9 +1,7 @@
 -- How long an engine lasts: no count of a desk runs ahead of the frames that were mixed and given to the device.
 use Rattle.std.specs.Prelude.{ℕ, ◌+◌, ◌*◌, ◌≤◌, All}
 use Rattle.pcm_oss.specs.declared.fragments.TheConstants.{RING_BYTES}
-use Rattle.pcm_desk.specs.declared.map_book.MapBook.{MapBook}
-use Rattle.pcm_desk.specs.declared.play_book.PlayBook.{PlayBook}
-use Rattle.pcm_desk.specs.declared.record_book.RecordBook.{RecordBook}
+use Rattle.pcm_engine.specs.Types.{MapBook, PlayBook, RecordBook}
 use Rattle.pcm_desk.specs.Desk.{Desk}
 
 -- the most bytes that play for one frame of the mix: 48 frames of a client, of 32 bytes each

@@ -1,8 +1,7 @@
 -- What an engine's parts stand for: the story of a list of events.
 use Rattle.std.specs.Prelude.{◌≡◌, ℕ, ◌*◌, ◌<◌, List, length, drop, slice_index_or, take}
-use Rattle.pcm_feeder.specs.Kept.{Kept}
+use Rattle.pcm_engine.specs.Types.{Kept, Pool}
 use Rattle.pcm_format.specs.Frames.{Frame}
-use Rattle.pcm_wave.specs.declared.pool.Pool.{Pool}
 use Rattle.pcm_wave.specs.Pools.{captured_frames}
 use Rattle.pcm_chain.specs.declared.chain.ChainOf.{ChainOf}
 use Rattle.pcm_desk.specs.Device.{DeviceSeen, device_frame_bytes, device_settings, device_filters, mixed_for}

@@ -1,17 +1,12 @@
 -- What one event leaves of an engine's parts.
 use Rattle.std.specs.Prelude.{◌≡◌, ℕ, ℤ, if◌then◌else◌, min, List, [], take, drop, Option, Some, None, slice_index_or}
-use Rattle.pcm_oss.specs.declared.event.Event.{Event}
+use Rattle.pcm_engine.specs.Types.{Device, Event, Filters, Held, Kept, Kind}
 use Rattle.pcm_oss.specs.declared.event.Event.TheVariants.{Write, Poke, Read, Intr}
-use Rattle.pcm_feeder.specs.declared.kind.Kind.{Kind}
-use Rattle.pcm_feeder.specs.Filters.{Filters}
-use Rattle.pcm_feeder.specs.Kept.{Kept}
 use Rattle.pcm_mixdev.specs.Mixers.{Levels}
-use Rattle.pcm_desk.specs.declared.device.Held.{Held}
 use Rattle.pcm_chain.specs.declared.chain.ChainOf.{ChainOf}
 use Rattle.pcm_desk.specs.Device.{DeviceSeen, device_filters, seen}
 use Rattle.pcm_desk.specs.Channels.{Channel, Mapped, Playing, Recording, by_way, mixed_by}
 use Rattle.pcm_desk.specs.Desk.{Desk, channel_at, held_by}
-use Rattle.pcm_desk.specs.declared.device.Device.{Device}
 use Rattle.pcm_desk.specs.RecordBooks.{record_fill_of}
 use Rattle.pcm_play.specs.declared.channel.PlayChannelOf.{PlayChannelOf}
 use Rattle.pcm_play.specs.Channels.{PlayMoves}
@@ -85,3 +80,9 @@ front_taken rings count (Some held) = by_way held.way [] (take count (slice_inde
 abbrev pub bytes_answered : DeviceSeen → Desk → (ℕ → List ℕ) → Event → List ℕ
 bytes_answered device desk bytes (Read fd count) = bytes_read device desk bytes count (held_by desk fd)
 bytes_answered device desk bytes event = []
+
+-- So many bytes of the device's ring are put at the front of a room, whose rest stays.
+pub record PutsFront (size : ℕ) (ring room filled : List ℕ) (count : ℕ) : Type 0 where
+  pub size_is : count ≡ size
+  pub front : take count filled ≡ take count ring
+  pub rest : drop count filled ≡ drop count room

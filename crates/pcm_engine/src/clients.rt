@@ -4,16 +4,18 @@ ghost use Rattle.std.specs.Borrow.{sem};
 ghost use Rattle.std.specs.Prelude.{◌≡◌, ◌<◌, ◌≤◌, [], length, slice_index_or};
 ghost use Rattle.pcm_sequence.specs.Fixed.{fixed_len};
 ghost use Rattle.pcm_feeder.specs.Filters.{Filters};
-ghost use Rattle.pcm_feeder.specs.Limits.{IsRate};
-ghost use Rattle.pcm_oss.specs.declared.event.Event.TheVariants.{Open, Write, Poke, Read, Close};
+ghost use Rattle.pcm_oss.specs.declared.event.Event.TheVariants.{Open, Write, Poke, Read, Ioctl, Close};
 ghost use Rattle.pcm_oss.specs.Replies.{bytes_due};
 ghost use Rattle.pcm_wave.specs.declared.pool.Source.TheVariants.{Inline};
 ghost use Rattle.pcm_oss.specs.declared.reply.TheConstants.{REPLY_BYTES};
-ghost use Rattle.pcm_desk.specs.declared.limits.TheConstants.{DESCRIPTORS, READ_BYTES};
+ghost use Rattle.pcm_desk.specs.Device.{seen};
+ghost use Rattle.pcm_desk.specs.Own.{HoldApart};
 ghost use Rattle.pcm_vchan.specs.Lending.{LendsMapAt};
 ghost use Rattle.pcm_vchan.specs.Parents.{map_channels, untouched, AreServed};
 ghost use Rattle.pcm_engine.specs.Answered.{AnswersBy, AnswersWith, AsksBy, IsCalledBy, IsServed, IsSlotThere, LeavesParent, TakesBy};
+ghost use Rattle.pcm_engine.specs.Brought.{IsAllowed};
 ghost use Rattle.pcm_engine.specs.Desks.{front_due, desk_with, turn_on, ioctl_call, ClosesHeld, ReadsKept};
+ghost use Rattle.pcm_engine.specs.Invariants.{AreOwn};
 ghost use Rattle.pcm_engine.specs.Steps.{poked_by};
 
 use crate::descriptors::Descriptors;
@@ -33,8 +35,7 @@ pub fn open<B: Feeder>(
     way: Way,
     settings: Settings,
 ) -> Result<Answer, Errno>
-    requires fd { fd < DESCRIPTORS }
-    requires rate { IsRate settings.rate }
+    requires within { IsAllowed (seen tables.now parent.old.device) (Open fd way settings) }
     requires served { AreServed B.kind B.kept tables.now parent.old }
     ensures { AnswersBy B.kind B.kept tables.now (turn_on (Open fd way settings))
         parent.old descriptors.old parent.new descriptors.new result }
@@ -54,8 +55,8 @@ pub fn write<B: Feeder>(
     bytes: &[u8],
     here: Here,
 ) -> Result<Answer, Errno>
-    requires called { IsCalledBy B.kind B.kept fd parent.old descriptors.now }
-    ensures { (filters : Filters) → AsksBy B.kind B.kept filters here fd parent.old descriptors.now
+    requires called { IsCalledBy B.kind B.kept (Write fd Inline 0 (length bytes.now)) parent.old descriptors.now }
+    ensures { (filters : Filters) → AsksBy B.kind B.kept filters here (Write fd Inline 0 (length bytes.now)) parent.old descriptors.now
         → AnswersWith B.kind B.kept filters bytes.now untouched (turn_on (Write fd Inline 0 (length bytes.now)))
         parent.old descriptors.now parent.new descriptors.now result }
 {
@@ -71,7 +72,7 @@ pub fn poke<B: Feeder>(
     offset: u32,
     bytes: &[u8],
 ) -> Result<Answer, Errno>
-    requires called { IsCalledBy B.kind B.kept fd parent.old descriptors.now }
+    requires called { IsCalledBy B.kind B.kept (Poke fd offset 0 (length bytes.now)) parent.old descriptors.now }
     ensures { (filters : Filters) → AnswersWith B.kind B.kept filters []
         (poked_by fd offset bytes.now (desk_with parent.old descriptors.now)) (turn_on (Poke fd offset 0 (length bytes.now)))
         parent.old descriptors.now parent.new descriptors.now result }
@@ -87,7 +88,8 @@ fn read<B: Feeder>(
     fd: u8,
     out: &mut [u8],
 ) -> Result<Answer, Errno>
-    requires called { IsCalledBy B.kind B.kept fd parent.old descriptors.now }
+    requires apart { HoldApart (desk_with parent.old descriptors.now) }
+    requires own { AreOwn parent.old }
     ensures takes { (filters : Filters) → TakesBy B.kind B.kept filters [] untouched (turn_on (Read fd (length out.old)))
         parent.old descriptors.now parent.new descriptors.now result }
     ensures within { bytes_due result ≤ length out.old }
@@ -108,8 +110,7 @@ pub fn answer_read<B: Feeder>(
     bytes: &mut [u8],
     reply: &mut ReplyBuf,
 )
-    requires called { IsCalledBy B.kind B.kept fd parent.old descriptors.now }
-    requires few { len ≤ READ_BYTES }
+    requires called { IsCalledBy B.kind B.kept (Read fd len) parent.old descriptors.now }
     requires room { length bytes.old ≡ REPLY_BYTES }
     ensures takes { (filters : Filters) → TakesBy B.kind B.kept filters [] untouched (turn_on (Read fd len))
         parent.old descriptors.now parent.new descriptors.now reply.new.result }
@@ -128,7 +129,7 @@ pub fn ask<B: Feeder>(
     request: Request,
     here: Here,
 ) -> Result<Answer, Errno>
-    requires asks { AsksBy B.kind B.kept tables.now here fd parent.old descriptors.now }
+    requires asks { AsksBy B.kind B.kept tables.now here (Ioctl fd request) parent.old descriptors.now }
     ensures { AnswersBy B.kind B.kept tables.now (ioctl_call fd request)
         parent.old descriptors.now parent.new descriptors.now result }
 {
@@ -147,13 +148,15 @@ pub fn close<B: Feeder>(
     fd: u8,
     here: Here,
 ) -> Result<Answer, Errno>
-    requires called { IsCalledBy B.kind B.kept fd parent.old descriptors.old }
-    ensures { (filters : Filters) → AsksBy B.kind B.kept filters here fd parent.old descriptors.old
+    requires called { IsCalledBy B.kind B.kept (Close fd) parent.old descriptors.old }
+    ensures { (filters : Filters) → AsksBy B.kind B.kept filters here (Close fd) parent.old descriptors.old
         → AnswersBy B.kind B.kept filters (turn_on (Close fd)) parent.old descriptors.old parent.new descriptors.new result }
 {
     let held = descriptors.holding(fd)?;
     let answer = close_channel(parent, held, here);
-    descriptors.leave(held);
+    let mut groups = descriptors.groups();
+    groups.leave(held.way, held.slot);
+    descriptors.regroup(groups);
     descriptors.set(fd, None);
     Ok(answer)
 }

@@ -1,16 +1,15 @@
 //! Which descriptor holds which channel, which channels start together, and what a descriptor is refused for.
 
 ghost use Rattle.std.specs.Prelude.{◌≡◌, ◌<◌, IfOk, None, Some, replicate, slice_index_or};
-ghost use Rattle.pcm_oss.specs.declared.event.TheConstants.{SLOTS};
 ghost use Rattle.pcm_group.specs.Groups.{no_groups};
 ghost use Rattle.pcm_desk.specs.Channels.{member_refusal};
-ghost use Rattle.pcm_desk.specs.Desk.{leaving, left_by};
-ghost use Rattle.pcm_engine.specs.Descriptors.{holding, is_member_in, shut, slot_of};
+ghost use Rattle.pcm_desk.specs.Desk.{left_by};
+ghost use Rattle.pcm_engine.specs.Descriptors.{holding, shut, slot_of};
 ghost use Rattle.pcm_engine.specs.Desks.{with_held};
 
 use pcm_desk::{DESCRIPTORS, Held};
 use pcm_group::Groups;
-use pcm_oss::{Errno, Request, SLOTS, Way};
+use pcm_oss::{Errno, Request, Way};
 use std::alloc::{AllocError, Global};
 
 /// What each descriptor holds, if it is open, and which of these channels start together.
@@ -39,10 +38,9 @@ impl Descriptors {
 
     /// That a descriptor is shut, and may be opened.
     pub fn shut(&self, fd: u8) -> Result<(), Errno>
-        requires { fd < DESCRIPTORS }
         ensures { result ≡ shut (slice_index_or self.now.held.value fd None) }
     {
-        match self.held[usize::from(fd)] {
+        match self.held(fd) {
             Some(_) => Err(Errno::Exist),
             None => Ok(()),
         }
@@ -50,18 +48,19 @@ impl Descriptors {
 
     /// The channel that a descriptor holds, if it is open.
     pub fn held(&self, fd: u8) -> Option<Held>
-        requires { fd < DESCRIPTORS }
         ensures { result ≡ slice_index_or self.now.held.value fd None }
     {
-        self.held[usize::from(fd)]
+        match self.held.get(usize::from(fd)) {
+            Some(held) => *held,
+            None => None,
+        }
     }
 
     /// The channel that a descriptor holds, which is open.
     pub fn holding(&self, fd: u8) -> Result<Held, Errno>
-        requires { fd < DESCRIPTORS }
         ensures { result ≡ holding (slice_index_or self.now.held.value fd None) }
     {
-        match self.held[usize::from(fd)] {
+        match self.held(fd) {
             Some(held) => Ok(held),
             None => Err(Errno::BadF),
         }
@@ -69,7 +68,6 @@ impl Descriptors {
 
     /// The slot of the channel that a descriptor holds, which is of this way.
     pub fn slot_of(&self, fd: u8, way: Way) -> Result<usize, Errno>
-        requires { fd < DESCRIPTORS }
         ensures { result ≡ slot_of way (slice_index_or self.now.held.value fd None) }
     {
         let held = self.holding(fd)?;
@@ -102,34 +100,24 @@ impl Descriptors {
         self.groups = groups;
     }
 
-    /// A channel is a member of no group any more.
-    pub fn leave(&mut self, held: Held)
-        requires { held.slot < SLOTS }
-        ensures { self.new ≡ record self.old { groups = leaving held self.old.groups } }
-    {
-        self.groups.leave(held.way, held.slot);
-    }
-
-    /// What a request is refused for where the channel is a member: its trigger is its group's.
-    pub fn refusal(&self, held: Held, request: Request) -> Option<Errno>
-        requires { held.slot < SLOTS }
-        ensures { result ≡ member_refusal (is_member_in self.now.groups held) request }
-    {
-        match request {
-            Request::SetTrigger(bits) if self.groups.of(held.way, held.slot) > 0 => {
-                Some(if bits > 3 { Errno::Inval } else { Errno::Busy })
-            }
-            _ => None,
-        }
-    }
-
     /// A sync leaves the group of its channel.
     pub fn leave_by(&mut self, held: Held, request: Request)
-        requires { held.slot < SLOTS }
         ensures { self.new ≡ record self.old { groups = left_by request held self.old.groups } }
     {
         if matches!(request, Request::Sync) {
-            self.leave(held);
+            self.groups.leave(held.way, held.slot);
         }
+    }
+}
+
+/// What a request is refused for where its channel is a member: the trigger is the group's.
+pub fn member_refusal(member: bool, request: Request) -> Option<Errno>
+    ensures { result ≡ member_refusal member request }
+{
+    match request {
+        Request::SetTrigger(bits) if member => {
+            Some(if bits > 3 { Errno::Inval } else { Errno::Busy })
+        }
+        _ => None,
     }
 }

@@ -1,6 +1,6 @@
 //! The engine and its events.
 
-ghost use Rattle.std.specs.Prelude.{◌≡◌, [], ◌*◌, ◌≤◌, length, take, drop, IfOk};
+ghost use Rattle.std.specs.Prelude.{◌≡◌, [], ◌*◌, ◌≤◌, length, take, IfOk};
 ghost use Rattle.pcm_sequence.specs.Fixed.{fixed_len};
 ghost use Rattle.pcm_desk.specs.Events.{Fits, bytes_handed};
 ghost use Rattle.pcm_desk.specs.Device.{seen};
@@ -8,6 +8,7 @@ ghost use Rattle.pcm_vchan.specs.Parents.{HasRacks};
 ghost use Rattle.pcm_desk.proofs.Props.{hold_props};
 ghost use Rattle.pcm_engine.specs.Applied.{Applied};
 ghost use Rattle.pcm_engine.specs.Invariants.{PartsInOrder};
+ghost use Rattle.pcm_engine.specs.Steps.{PutsFront};
 ghost use Rattle.pcm_oss.specs.Replies.{bytes_due};
 ghost use Rattle.pcm_oss.specs.declared.reply.TheConstants.{REPLY_BYTES};
 ghost use Rattle.pcm_format.specs.Layouts.{channels_of};
@@ -42,10 +43,10 @@ impl<B: Feeder> EngineOf<B> {
     ghost use Rattle.pcm_oss.specs.declared.event.Event.{Event};
     ghost use Rattle.pcm_wave.specs.declared.pool.Pool.{Pool};
     ghost use Rattle.pcm_wave.specs.Pools.{IsCaptureIn};
-    ghost use Rattle.pcm_desk.specs.Device.{IsInLimits, device_settings};
+    ghost use Rattle.pcm_desk.specs.Device.{device_settings};
     ghost use Rattle.pcm_engine.specs.Brought.{padded};
-    ghost use Rattle.pcm_feeder.specs.Racks.{AreRacks, list_of};
-    ghost use Rattle.pcm_engine.specs.Engines.{AreReady, CanStep, CanStepWith, HasStepped, Stands, StepsAs, StepsAsCalled, device_of, samples_at_hand, samples_most};
+    ghost use Rattle.pcm_feeder.specs.Racks.{list_of};
+    ghost use Rattle.pcm_engine.specs.Engines.{AreReady, CanBeMade, CanStep, CanStepWith, HasStepped, Stands, StepsAs, StepsAsCalled, device_of, samples_at_hand, samples_most};
 
     /// The engine of a device with its filters, before its first event. Its channels pick their stages from the racks, one rack a slot; after
     /// a refusal the racks are dropped. All memory of the engine is taken here.
@@ -55,8 +56,7 @@ impl<B: Feeder> EngineOf<B> {
         tables: Tables,
         racks: RacksOf<B>,
     ) -> Result<EngineOf<B>, AllocError>
-        requires limits { IsInLimits (seen tables device) }
-        requires kinds { AreRacks B.kind (list_of racks) }
+        requires { CanBeMade B.kind tables device racks }
         ensures device { IfOk result (λ engine. device_of engine ≡ seen tables device) }
         ensures handed { IfOk result (λ engine. engine.parent.handed ≡ 0) }
         ensures ready { IfOk result (AreReady B.kind B.kept) }
@@ -139,9 +139,7 @@ impl<B: Feeder> EngineOf<B> {
         ensures tables { self.new.tables ≡ self.old.tables }
         ensures applied { Applied B.kind B.kept self.old.tables event.now bytes.now (samples_at_hand self.old event.now)
             self.old.parent self.old.descriptors self.new.parent self.new.descriptors reply.new }
-        ensures count { result ≡ bytes_handed (device_of self.old) event.now }
-        ensures out { take result out.new ≡ take result self.old.parent.ring.bytes }
-        ensures rest { drop result out.new ≡ drop result out.old }
+        ensures out { PutsFront (bytes_handed (device_of self.old) event.now) self.old.parent.ring.bytes out.old out.new result }
     {
         let here = self.parent.here();
         let parent = &mut self.parent;

@@ -10,7 +10,7 @@ ghost use Rattle.pcm_engine.specs.Answered.{AnswersBy, AsksBy, IsSlotThere};
 ghost use Rattle.pcm_engine.specs.Desks.{desk_with, turn_on};
 
 use crate::clients::ask;
-use crate::descriptors::Descriptors;
+use crate::descriptors::{Descriptors, member_refusal};
 use pcm_desk::{Held, Here};
 use pcm_feeder::{Feeder, Tables};
 use pcm_group::may_join;
@@ -26,12 +26,13 @@ pub fn ioctl<B: Feeder>(
     request: Request,
     here: Here,
 ) -> Result<Answer, Errno>
-    requires asks { AsksBy B.kind B.kept tables.now here fd parent.old descriptors.old }
+    requires asks { AsksBy B.kind B.kept tables.now here (Ioctl fd request) parent.old descriptors.old }
     ensures { AnswersBy B.kind B.kept tables.now (turn_on (Ioctl fd request))
         parent.old descriptors.old parent.new descriptors.new result }
 {
     let held = descriptors.holding(fd)?;
-    if let Some(errno) = descriptors.refusal(held, request) {
+    let group = descriptors.groups().of(held.way, held.slot);
+    if let Some(errno) = member_refusal(group > 0, request) {
         return Err(errno);
     }
     descriptors.leave_by(held, request);
@@ -47,7 +48,7 @@ pub fn join<B: Feeder>(
     group: u32,
     here: Here,
 ) -> Result<Answer, Errno>
-    requires asks { AsksBy B.kind B.kept tables.now here fd parent.old descriptors.old }
+    requires asks { AsksBy B.kind B.kept tables.now here (Join fd group) parent.old descriptors.old }
     ensures { AnswersBy B.kind B.kept tables.now (turn_on (Join fd group))
         parent.old descriptors.old parent.new descriptors.new result }
 {
@@ -79,7 +80,7 @@ pub fn start_group<B: Feeder>(
     group: u32,
     here: Here,
 ) -> Result<Answer, Errno>
-    requires asks { AsksBy B.kind B.kept tables.now here fd parent.old descriptors.old }
+    requires asks { AsksBy B.kind B.kept tables.now here (StartGroup fd group) parent.old descriptors.old }
     ensures { AnswersBy B.kind B.kept tables.now (turn_on (StartGroup fd group))
         parent.old descriptors.old parent.new descriptors.new result }
 {

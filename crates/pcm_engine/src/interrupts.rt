@@ -1,6 +1,6 @@
 //! The device's interrupt: it brings what is captured.
 
-ghost use Rattle.std.specs.Prelude.{◌≡◌, ◌*◌, ◌<◌, ◌≤◌, ℕ, List, [], Ok, length, take, drop};
+ghost use Rattle.std.specs.Prelude.{◌*◌, ◌<◌, ◌≤◌, ℕ, List, [], Ok, length, take};
 ghost use Rattle.pcm_format.specs.Frames.{frame_bytes};
 ghost use Rattle.pcm_format.specs.Layouts.{channels_of};
 ghost use Rattle.pcm_oss.specs.declared.event.Event.TheVariants.{Intr};
@@ -8,6 +8,7 @@ ghost use Rattle.pcm_oss.specs.declared.reply.Answer.TheVariants.{Number};
 ghost use Rattle.pcm_vchan.specs.Parents.{AreDue, HasRoomFor};
 ghost use Rattle.pcm_engine.specs.declared.descriptors.Descriptors.{Descriptors};
 ghost use Rattle.pcm_engine.specs.Applied.{Applied};
+ghost use Rattle.pcm_engine.specs.Steps.{PutsFront};
 
 use pcm_feeder::{Feeder, Tables};
 use pcm_vchan::ParentOf;
@@ -30,9 +31,7 @@ pub fn interrupt<B: Feeder>(
     ensures applied { (descriptors : Descriptors) (bytes : List ℕ) → Applied B.kind B.kept tables.now (Intr frames) bytes
         (take (frames * channels_of parent.old.device.settings.layout) captured.now)
         parent.old descriptors parent.new descriptors (record { result = Ok (Number frames); bytes = [] }) }
-    ensures count { result ≡ frames * frame_bytes parent.old.device.settings }
-    ensures out { take result out.new ≡ take result parent.old.ring.bytes }
-    ensures rest { drop result out.new ≡ drop result out.old }
+    ensures out { PutsFront (frames * frame_bytes parent.old.device.settings) parent.old.ring.bytes out.old out.new result }
 {
     let n = frames as usize;
     let size = n * parent.device.settings.frame_bytes();

@@ -15,6 +15,7 @@ mod mixer_calls;
 mod views;
 
 pub use brought::{bytes_asked, bytes_handed, samples_asked};
+pub use descriptors::member_refusal;
 pub use engine::{Engine, EngineOf};
 pub use laws::engines_stand_with_alike_pools;
 pub use limits::LIFE;

@@ -1,14 +1,13 @@
 //! What can be seen of an engine without a step: who holds what, each book, and the rates between the sides.
 
-ghost use Rattle.std.specs.Prelude.{◌≡◌, ◌+◌, ◌*◌, ◌^◌, ◌<◌, ◌≤◌, ◌&&◌, false, length};
+ghost use Rattle.std.specs.Prelude.{◌≡◌, ◌+◌, ◌*◌, ◌^◌, ◌<◌, ◌≤◌, ◌&&◌, length};
 ghost use Rattle.pcm_format.specs.Frames.{frame_bytes};
 ghost use Rattle.pcm_feeder.specs.Limits.{IsRate};
-ghost use Rattle.pcm_chain.specs.Counts.{IsNear};
 ghost use Rattle.pcm_oss.specs.declared.event.TheConstants.{SLOTS};
 ghost use Rattle.pcm_oss.specs.declared.fragments.TheConstants.{RING_BYTES};
 ghost use Rattle.pcm_engine.specs.declared.limits.TheConstants.{LIFE};
 ghost use Rattle.pcm_desk.specs.declared.limits.TheConstants.{DESCRIPTORS};
-ghost use Rattle.pcm_desk.specs.Device.{map_slots, parent_rate, play_slots, record_slots};
+ghost use Rattle.pcm_desk.specs.Device.{parent_rate, record_slots};
 ghost use Rattle.pcm_desk.specs.Channels.{play_rate_at, record_rate_at};
 ghost use Rattle.pcm_desk.specs.Desk.{desk_here, group_of, held_by, map_at, play_at, record_at, slot_number};
 ghost use Rattle.pcm_desk.specs.Here.{IsHere};
@@ -17,7 +16,7 @@ ghost use Rattle.pcm_desk.specs.RunStates.{is_unheld};
 ghost use Rattle.std.specs.List.{list_all};
 ghost use Rattle.pcm_vchan.specs.Parents.{map_channels, play_channels, record_channels};
 ghost use Rattle.pcm_engine.specs.Engines.{AreReady, desk_of, device_of};
-ghost use Rattle.pcm_engine.specs.Views.{is_idle};
+ghost use Rattle.pcm_engine.specs.Views.{is_idle, HasMapSlot, HasPlaySlot, HasPlayTaken, HasRecordTaken, IsPlanRate};
 
 use crate::engine::EngineOf;
 use pcm_desk::{Held, Here, MapBook, PlayBook, RecordBook};
@@ -72,7 +71,6 @@ impl<B: Feeder> EngineOf<B> {
 
     /// The group of a channel: 0 is none.
     pub fn group_of(&self, held: Held) -> u32
-        requires { held.slot < SLOTS }
         ensures { result ≡ group_of (desk_of self.now) held }
     {
         self.descriptors.groups().of(held.way, held.slot)
@@ -80,8 +78,7 @@ impl<B: Feeder> EngineOf<B> {
 
     /// The book of a slot that plays.
     pub fn play_book(&self, slot: usize) -> PlayBook
-        requires ready { AreReady B.kind B.kept self.now }
-        requires there { slot < play_slots (device_of self.now) }
+        requires { HasPlaySlot B.kind B.kept self.now slot }
         ensures is { result ≡ play_at (device_of self.now) (desk_of self.now) slot }
         ensures client { IsRate result.opening.settings.rate }
         ensures eaten { result.eaten * frame_bytes result.opening.settings ≤ result.written }
@@ -103,8 +100,7 @@ impl<B: Feeder> EngineOf<B> {
 
     /// The book of a mapped slot, by its place among these.
     pub fn map_book(&self, place: usize) -> MapBook
-        requires ready { AreReady B.kind B.kept self.now }
-        requires there { place < map_slots (device_of self.now) }
+        requires { HasMapSlot B.kind B.kept self.now place }
         ensures is { result ≡ map_at (device_of self.now) (desk_of self.now) place }
         ensures taken { result.eaten * frame_bytes result.opening.settings < 2 ^ 64 }
     {
@@ -113,22 +109,16 @@ impl<B: Feeder> EngineOf<B> {
 
     /// The rate between a slot that plays and the mix: that of a slot which isn't free.
     pub fn play_rate(&self, slot: usize) -> Rate
-        requires ready { AreReady B.kind B.kept self.now }
-        requires there { slot < play_slots (device_of self.now) }
-        requires taken { is_play_free (play_at (device_of self.now) (desk_of self.now) slot).state ≡ false }
-        ensures is { result ≡ play_rate_at (device_of self.now) (play_at (device_of self.now) (desk_of self.now) slot) }
-        ensures near { IsNear result }
+        requires { HasPlayTaken B.kind B.kept self.now slot }
+        ensures { IsPlanRate (play_rate_at (device_of self.now) (play_at (device_of self.now) (desk_of self.now) slot)) result }
     {
         self.parent.channels[slot].path.chain.plan().rate()
     }
 
     /// The rate between the device and a slot that records: that of a slot which isn't free.
     pub fn record_rate(&self, slot: usize) -> Rate
-        requires ready { AreReady B.kind B.kept self.now }
-        requires there { slot < record_slots (device_of self.now) }
-        requires taken { is_unheld (record_at (device_of self.now) (desk_of self.now) slot).state ≡ false }
-        ensures is { result ≡ record_rate_at (device_of self.now) (record_at (device_of self.now) (desk_of self.now) slot) }
-        ensures near { IsNear result }
+        requires { HasRecordTaken B.kind B.kept self.now slot }
+        ensures { IsPlanRate (record_rate_at (device_of self.now) (record_at (device_of self.now) (desk_of self.now) slot)) result }
     {
         self.parent.recorders[slot].path.chain.plan().rate()
     }
@@ -136,8 +126,7 @@ impl<B: Feeder> EngineOf<B> {
     /// The rate between the mix and the device.
     pub fn parent_rate(&self) -> Rate
         requires ready { AreReady B.kind B.kept self.now }
-        ensures is { result ≡ parent_rate (device_of self.now) }
-        ensures near { IsNear result }
+        ensures { IsPlanRate (parent_rate (device_of self.now)) result }
     {
         self.parent.bus.chain.plan().rate()
     }

@@ -1,7 +1,6 @@
 //! The group of each slot.
 
-ghost use Rattle.std.specs.Prelude.{◌≡◌, ◌<◌, ◌==◌, if◌then◌else◌};
-ghost use Rattle.pcm_oss.specs.declared.event.TheConstants.{SLOTS};
+ghost use Rattle.std.specs.Prelude.{◌≡◌, ◌==◌, if◌then◌else◌, slice_index_or, slice_set};
 ghost use Rattle.pcm_group.specs.Groups.{dissolved_in, has_group, may_join};
 
 use pcm_oss::{Errno, SLOTS, Way};
@@ -32,14 +31,13 @@ impl Groups {
         }
     }
 
-    /// The group that a slot is in, or 0. A channel of a mapped area is in none.
+    /// The group that a slot is in, or 0. A channel of a mapped area is in none, and nor is a slot that isn't there.
     pub fn of(&self, way: Way, slot: usize) -> u32
-        requires { slot < SLOTS }
         ensures { result ≡ group_at self.now way slot }
     {
         match way {
-            Way::Play => self.play[slot],
-            Way::Record => self.recording[slot],
+            Way::Play => group_at(&self.play, slot),
+            Way::Record => group_at(&self.recording, slot),
             Way::Map => 0,
         }
     }
@@ -56,7 +54,6 @@ impl Groups {
     /// Puts a slot into a group: by 0 into the least that no slot is in, else into this one. Returns the number of its group. A way
     /// that joins none and a group that is not in use are refused first, then a slot that has a group, and a new group where none is free.
     pub fn join(&mut self, way: Way, slot: usize, group: u32) -> Result<u32, Errno>
-        requires { slot < SLOTS }
         ensures answer { result ≡ joining self.old way slot group }
         ensures groups { self.new ≡ groups_joined self.old way slot result }
     {
@@ -67,7 +64,6 @@ impl Groups {
 
     /// Takes a slot out of its group.
     pub fn leave(&mut self, way: Way, slot: usize)
-        requires { slot < SLOTS }
         ensures { self.new ≡ with_group self.old way slot 0 }
     {
         self.set(way, slot, 0);
@@ -83,7 +79,6 @@ impl Groups {
 
     // The group that a slot gets when it asks for one.
     fn number_for(&self, way: Way, slot: usize, group: u32) -> Result<u32, Errno>
-        requires { slot < SLOTS }
         ensures { result ≡ joining self.now way slot group }
     {
         if !may_join(way) || 0 < group && !self.is_used(group) {
@@ -106,14 +101,13 @@ impl Groups {
         NUMBERS.iter().copied().find(|group| !self.is_used(*group))
     }
 
-    // Puts a slot into this group, or into none by 0.
+    // Puts a slot, where it is there, into this group, or into none by 0.
     fn set(&mut self, way: Way, slot: usize, group: u32)
-        requires { slot < SLOTS }
         ensures { self.new ≡ with_group self.old way slot group }
     {
         match way {
-            Way::Play => self.play[slot] = group,
-            Way::Record => self.recording[slot] = group,
+            Way::Play => put(&mut self.play, slot, group),
+            Way::Record => put(&mut self.recording, slot, group),
             Way::Map => {}
         }
     }
@@ -124,6 +118,25 @@ pub fn may_join(way: Way) -> bool
     ensures { result ≡ may_join way }
 {
     !matches!(way, Way::Map)
+}
+
+// The group of a slot, and 0 where there is no such slot.
+fn group_at(slots: &[u32], slot: usize) -> u32
+    ensures { result ≡ slice_index_or slots.now slot 0 }
+{
+    match slots.get(slot) {
+        Some(&its) => its,
+        None => 0,
+    }
+}
+
+// Puts a slot, where it is there, into the group.
+fn put(slots: &mut [u32], slot: usize, group: u32)
+    ensures { slots.new ≡ slice_set slots.old slot group }
+{
+    if slot < slots.len() {
+        slots[slot] = group;
+    }
 }
 
 // Whether some slot is in the group.

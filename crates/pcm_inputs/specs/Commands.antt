@@ -1,5 +1,5 @@
 -- What a contract sees of a command, which files a command may read, and what is accepted of it.
-use Rattle.std.specs.Prelude.{◌≡◌, ◌⊎◌, ℕ, List, Option, Some, None, option_map}
+use Rattle.std.specs.Prelude.{◌≡◌, ◌⊎◌, ℕ, List, Option, Some, None, IfSome, option_map}
 use Rattle.std.specs.Borrow.{Bor}
 use Rattle.pcm_feeder.specs.Limits.{IsRate}
 use Rattle.pcm_wave.specs.Headers.{IsWaveFormat}
@@ -50,3 +50,8 @@ WriteNoFile command = Unit {0}
 abbrev pub AreLimits : Command → Type 0
 AreLimits (Convert input out target) = IsRate target.rate × IsWaveFormat target.format
 AreLimits command = Unit {0}
+
+-- the command that words ask for, within the limits, or none
+pub record IsAskedBy (asked : Option verdicts.Command) (result : Option Command) : Type 0 where
+  pub value : option_map command_seen result ≡ asked
+  pub limits : IfSome result AreLimits

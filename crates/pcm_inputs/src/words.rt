@@ -6,7 +6,7 @@ ghost use Rattle.pcm_format.specs.Layouts.{layout_of};
 ghost use Rattle.pcm_wave.specs.Formats.{wave_format};
 ghost use Rattle.pcm_wave.specs.Headers.{IsWaveFormat};
 ghost use Rattle.pcm_feeder.specs.Limits.{IsRate};
-ghost use Rattle.pcm_inputs.specs.Commands.{AreLimits, command_seen, named};
+ghost use Rattle.pcm_inputs.specs.Commands.{IsAskedBy, named};
 
 use pcm_format::{Format, Layout, RATE_LEAST, RATE_MOST, Settings};
 use pcm_script::decimal_in;
@@ -41,8 +41,7 @@ pub enum Command<'a> {
 /// The command that the words spell, if they match a form.
 #[tactic(auto, unfolding(pcm_verdict::specs::Commands::command_of))]
 pub fn command_in(words: &[String]) -> Option<Command<'_>>
-    ensures value { option_map command_seen result ≡ command_of (map string_bytes words.now) }
-    ensures limits { IfSome result AreLimits }
+    ensures { IsAskedBy (command_of (map string_bytes words.now)) result }
 {
     let (word, words) = words.split_first()?;
     match word.as_str() {
@@ -57,8 +56,7 @@ pub fn command_in(words: &[String]) -> Option<Command<'_>>
 // `run SCRIPT OUT` and `run SCRIPT OUT CONFIG`.
 #[tactic(auto, unfolding(pcm_verdict::specs::Commands::run_words))]
 fn run_in(words: &[String]) -> Option<Command<'_>>
-    ensures value { option_map command_seen result ≡ run_words (map string_bytes words.now) }
-    ensures limits { IfSome result AreLimits }
+    ensures { IsAskedBy (run_words (map string_bytes words.now)) result }
 {
     let [s, o, rest @ ..] = words else {
         return None;
@@ -76,8 +74,7 @@ fn run_in(words: &[String]) -> Option<Command<'_>>
 // `check SCRIPT` and `check SCRIPT CONFIG`.
 #[tactic(auto, unfolding(pcm_verdict::specs::Commands::check_words))]
 fn check_in(words: &[String]) -> Option<Command<'_>>
-    ensures value { option_map command_seen result ≡ check_words (map string_bytes words.now) }
-    ensures limits { IfSome result AreLimits }
+    ensures { IsAskedBy (check_words (map string_bytes words.now)) result }
 {
     let [s, rest @ ..] = words else {
         return None;
@@ -90,8 +87,7 @@ fn check_in(words: &[String]) -> Option<Command<'_>>
 // `convert IN OUT RATE FORMAT CHANNELS`.
 #[tactic(auto, unfolding(pcm_verdict::specs::Commands::convert_words))]
 fn convert_in(words: &[String]) -> Option<Command<'_>>
-    ensures value { option_map command_seen result ≡ convert_words (map string_bytes words.now) }
-    ensures limits { IfSome result AreLimits }
+    ensures { IsAskedBy (convert_words (map string_bytes words.now)) result }
 {
     let [i, o, r, f, c] = words else {
         return None;
@@ -105,8 +101,7 @@ fn convert_in(words: &[String]) -> Option<Command<'_>>
 // `soak N`.
 #[tactic(auto, unfolding(pcm_verdict::specs::Commands::soak_words))]
 fn soak_in(words: &[String]) -> Option<Command<'_>>
-    ensures value { option_map command_seen result ≡ soak_words (map string_bytes words.now) }
-    ensures limits { IfSome result AreLimits }
+    ensures { IsAskedBy (soak_words (map string_bytes words.now)) result }
 {
     let [n] = words else {
         return None;

@@ -1,5 +1,5 @@
 -- A mapped channel: what it stands for, what stands in its area, and what an event changes of it.
-use Rattle.std.specs.Prelude.{◌≡◌, ℕ, ◌+◌, ◌*◌, ◌^◌, ◌<◌, ◌≤◌, false, ℤ, if◌then◌else◌, List, [], ◌++◌, length, take}
+use Rattle.std.specs.Prelude.{◌≡◌, ℕ, ◌+◌, ◌*◌, ◌^◌, ◌<◌, ◌≤◌, false, ℤ, if◌then◌else◌, List, [], ◌++◌, length, take, OnErr, Result}
 use Rattle.pcm_sequence.specs.Fixed.{fixed_items}
 use Rattle.pcm_format.specs.Frames.{frame_bytes, frames}
 use Rattle.pcm_rate.specs.Rates.{need}
@@ -9,18 +9,21 @@ use Rattle.pcm_feeder.specs.Filters.{Filters}
 use Rattle.pcm_feeder.specs.Kept.{Kept}
 use Rattle.pcm_chain.specs.Chains.{ChainStands}
 use Rattle.pcm_oss.specs.declared.event.Way.TheVariants.{Map}
+use Rattle.pcm_oss.specs.declared.reply.Answer.{Answer}
+use Rattle.pcm_oss.specs.declared.reply.Errno.{Errno}
 use Rattle.pcm_desk.specs.declared.map_book.MapBook.{MapBook}
+use Rattle.pcm_desk.specs.declared.turn.Turn.{Turn}
 use Rattle.pcm_desk.specs.declared.device.Device.{Device}
 use Rattle.pcm_desk.specs.Device.{seen}
 use Rattle.pcm_desk.specs.RunStates.{is_unheld}
-use Rattle.pcm_desk.specs.MapBooks.{taken_of}
+use Rattle.pcm_desk.specs.MapBooks.{map_closed, taken_of}
 use Rattle.pcm_desk.specs.Openings.{ring_bytes}
 use Rattle.pcm_desk.specs.Channels.{map_rate_at}
 use Rattle.pcm_desk.specs.Desk.{map_unopened}
 use Rattle.pcm_sound.specs.Added.{map_turned}
-use Rattle.pcm_sound.specs.Areas.{is_recut, silences, silent_area}
+use Rattle.pcm_sound.specs.Areas.{is_recut, poked, silences, silent_area}
 use Rattle.pcm_sound.specs.MapRuns.{area_taken}
-use Rattle.pcm_path.specs.Paths.{HasBoxes, IsPlanned}
+use Rattle.pcm_path.specs.Paths.{CanAdd, HasBoxes, IsPlanned}
 use Rattle.pcm_map.specs.declared.channel.MapChannelOf.{MapChannelOf}
 
 -- what stands in a channel's area: as many bytes as its fragments have
@@ -68,6 +71,10 @@ MapAddsTo kept filters device n gain old new channel = (bytes : List ℕ) → Ma
 abbrev pub RecutsArea : {B : Type 0} → MapChannelOf B → MapChannelOf B → Type 0
 RecutsArea old new = area_of new ≡ (if is_recut old.book.opening new.book.opening then silent_area new.book.opening else area_of old)
 
+-- bytes from one on are written into the area, if they fit
+abbrev pub PokesArea : {B : Type 0} → ℕ → List ℕ → MapChannelOf B → MapChannelOf B → Type 0
+PokesArea offset bytes old new = area_of new ≡ poked offset bytes (area_of old)
+
 -- nobody has opened the channel yet: it stands for no bytes, its boxes are of the right kinds, its chain goes by its plan, and its area is
 -- silent
 pub record IsMapUnopened {B : Type 0} (kind : B → Kind) (kept : B → Kept) (filters : Filters) (device : Device) (channel : MapChannelOf B) : Type 0 where
@@ -96,6 +103,35 @@ pub record MapKeeps {B : Type 0} (kind : B → Kind) (kept : B → Kept) (filter
     (old new : MapChannelOf B) : Type 0 where
   pub moves : MapMoves kind kept filters [] 0 old new
   pub area : area_of new ≡ (if silences old.book new.book then silent_area new.book.opening else writes (area_of old))
+
+-- what an opening makes of a channel: it takes nothing, and its area is silent
+pub record MapBegins {B : Type 0} (kind : B → Kind) (kept : B → Kept) (filters : Filters) (old new : MapChannelOf B) : Type 0 where
+  pub moves : MapMoves kind kept filters [] 0 old new
+  pub area : area_of new ≡ silent_area new.book.opening
+
+-- what a channel needs so that an interrupt can mix n of its frames at a gain
+pub record CanMixMap {B : Type 0} (kind : B → Kind) (kept : B → Kept) (filters : Filters) (n : ℕ) (gain : Gain) (frames sum : List ℤ)
+    (channel : MapChannelOf B) : Type 0 where
+  pub adds : CanAdd channel.path.device n gain frames sum
+  pub ready : IsMapReady kind kept filters channel
+  pub count : CountsFit filters n channel
+
+-- what a call that may be refused leaves of a channel, by the turn of its book
+pub record MapTurns {B : Type 0} (turn : Turn MapBook) (areas keeps : MapChannelOf B → MapChannelOf B → Type 0)
+    (result : Result Answer Errno) (old new : MapChannelOf B) : Type 0 where
+  pub book : new.book ≡ turn.book
+  pub reply : result ≡ turn.reply
+  pub device : new.path.device ≡ old.path.device
+  pub area : areas old new
+  pub refused : OnErr result (new ≡ old)
+  pub moves : keeps old new
+
+-- what a close leaves of it
+pub record ClosesMap {B : Type 0} (kind : B → Kind) (kept : B → Kept) (old new : MapChannelOf B) : Type 0 where
+  pub book : new.book ≡ map_closed old.book
+  pub device : new.path.device ≡ old.path.device
+  pub area : area_of new ≡ area_of old
+  pub moves : (filters : Filters) → MapMoves kind kept filters [] 0 old new
 
 -- what a channel needs so that it can be asked something
 pub record MayAskMap {B : Type 0} (kind : B → Kind) (filters : Filters) (channel : MapChannelOf B) : Type 0 where

@@ -1,27 +1,25 @@
 //! A mapped channel: its book, its area, and the path by whose ring and chain the device takes what stands there.
 
-ghost use Rattle.std.specs.Prelude.{◌≡◌, ◌+◌, ◌*◌, ◌<◌, ◌≤◌, [], length, IfOk, OnErr, All, IsTrue};
+ghost use Rattle.std.specs.Prelude.{◌≡◌, ◌+◌, ◌*◌, ◌<◌, ◌≤◌, [], length, All, IsTrue, IfOk};
 ghost use Rattle.pcm_sequence.specs.Fixed.{fixed_len};
 ghost use Rattle.pcm_format.specs.Formats.{bits_of};
 ghost use Rattle.pcm_format.specs.Layouts.{channels_of};
 ghost use Rattle.pcm_num.specs.Limit.{FitsBits};
-ghost use Rattle.pcm_feeder.specs.Limits.{IsGain, IsRate};
-ghost use Rattle.pcm_feeder.specs.Racks.{IsRack};
+ghost use Rattle.pcm_feeder.specs.Limits.{IsRate};
 ghost use Rattle.pcm_oss.specs.declared.event.Way.TheVariants.{Map};
 ghost use Rattle.pcm_oss.specs.declared.fragments.TheConstants.{RING_BYTES};
 ghost use Rattle.pcm_rate.specs.Rates.{IsRatio};
 ghost use Rattle.pcm_ring.specs.Ring.{empty_ring};
 ghost use Rattle.pcm_desk.specs.Device.{HasRates, seen};
 ghost use Rattle.pcm_desk.specs.RunStates.{is_unheld, is_running, is_in_setup};
-ghost use Rattle.pcm_desk.specs.MapBooks.{map_begun, map_closed, poke_turn};
+ghost use Rattle.pcm_desk.specs.MapBooks.{map_begun, poke_turn};
 ghost use Rattle.pcm_desk.specs.MapRequests.{map_ask};
 ghost use Rattle.pcm_desk.specs.MapSafe.{MapIsSafe};
 ghost use Rattle.pcm_desk.specs.Channels.{map_mixing};
 ghost use Rattle.pcm_desk.proofs.Props.{map_props};
 ghost use Rattle.pcm_chain.specs.Chains.{marks_in, HasRack};
-ghost use Rattle.pcm_path.specs.Paths.{path_rate, CanBegin, ChannelMoves, HasBoxes, HoldBlock, IsEmpty, IsPlanned};
+ghost use Rattle.pcm_path.specs.Paths.{path_rate, CanBegin, CanServe, ChannelMoves, HasBoxes, IsEmpty, IsPlanned};
 ghost use Rattle.std.proofs.Props.{props};
-ghost use Rattle.pcm_sound.specs.Areas.{poked};
 
 use crate::area::{put_round, recut, silence};
 use pcm_desk::{Device, MapBook, Opening, RunState};
@@ -56,7 +54,7 @@ impl<B: Feeder> MapChannelOf<B> {
     ghost use Rattle.pcm_feeder.specs.Filters.{Filters};
     ghost use Rattle.pcm_map.specs.declared.channel.TheConstants.{PIECE_FRAMES};
     ghost use Rattle.pcm_map.specs.Pieces.{MapGives};
-    ghost use Rattle.pcm_map.specs.Channels.{area_of, CountsFit, IsMapReady, MapAddsTo, MapMoves, MapTakes, MayAskMap, RecutsArea};
+    ghost use Rattle.pcm_map.specs.Channels.{area_of, CanMixMap, ClosesMap, CountsFit, IsMapReady, MapAddsTo, MapMoves, MapTakes, MapTurns, MayAskMap, PokesArea, RecutsArea};
 
     /// Whether the channel is open, and hasn't started.
     pub fn is_at_rest(&self) -> bool
@@ -74,12 +72,8 @@ impl<B: Feeder> MapChannelOf<B> {
 
     /// Writes `bytes` into the area from its byte `offset` on, if they fit.
     pub fn poke(&mut self, offset: u32, bytes: &[u8]) -> Result<Answer, Errno>
-        ensures book { self.new.book ≡ (poke_turn offset (length bytes.now) self.old.book).book }
-        ensures reply { result ≡ (poke_turn offset (length bytes.now) self.old.book).reply }
-        ensures device { self.new.path.device ≡ self.old.path.device }
-        ensures area { area_of self.new ≡ poked offset bytes.now (area_of self.old) }
-        ensures refused { OnErr result (self.new ≡ self.old) }
-        ensures moves { (filters : Filters) → MapMoves B.kind B.kept filters [] 0 self.old self.new }
+        ensures { MapTurns (poke_turn offset (length bytes.now) self.old.book) (PokesArea offset bytes.now)
+            (λ old new. (filters : Filters) → MapMoves B.kind B.kept filters [] 0 old new) result self.old self.new }
     {
         let turn = self.book.poke(offset, bytes.len() as u64);
         let answer = turn.reply?;
@@ -92,12 +86,7 @@ impl<B: Feeder> MapChannelOf<B> {
     /// make the area silent.
     pub fn ioctl(&mut self, tables: &Tables, request: Request) -> Result<Answer, Errno>
         requires { MayAskMap B.kind tables.now self.old }
-        ensures book { self.new.book ≡ (map_ask request self.old.book).book }
-        ensures reply { result ≡ (map_ask request self.old.book).reply }
-        ensures device { self.new.path.device ≡ self.old.path.device }
-        ensures area { RecutsArea self.old self.new }
-        ensures refused { OnErr result (self.new ≡ self.old) }
-        ensures moves { MapMoves B.kind B.kept tables.now [] 0 self.old self.new }
+        ensures { MapTurns (map_ask request self.old.book) RecutsArea (MapMoves B.kind B.kept tables.now [] 0) result self.old self.new }
     {
         let turn = self.book.asked(request);
         let answer = turn.reply?;
@@ -112,10 +101,7 @@ impl<B: Feeder> MapChannelOf<B> {
     /// No descriptor has the channel any more: nothing more is taken.
     pub fn close(&mut self)
         requires kinds { HasBoxes B.kind self.old.path }
-        ensures book { self.new.book ≡ map_closed self.old.book }
-        ensures device { self.new.path.device ≡ self.old.path.device }
-        ensures area { area_of self.new ≡ area_of self.old }
-        ensures moves { (filters : Filters) → MapMoves B.kind B.kept filters [] 0 self.old self.new }
+        ensures { ClosesMap B.kind B.kept self.old self.new }
     {
         self.book = self.book.closed();
         self.path.restart();
@@ -131,11 +117,7 @@ impl<B: Feeder> MapChannelOf<B> {
         frames: &mut [i32],
         sum: &mut [i32],
     )
-        requires some { 0 < n }
-        requires gain { IsGain slot_gain }
-        requires ready { IsMapReady B.kind B.kept tables.now self.old }
-        requires block { HoldBlock self.old.path.device n frames.old sum.old }
-        requires count { CountsFit tables.now n self.old }
+        requires { CanMixMap B.kind B.kept tables.now n slot_gain frames.old sum.old self.old }
         ensures book { self.new.book ≡ map_mixing (seen tables.now self.old.path.device) n self.old.book }
         ensures device { self.new.path.device ≡ self.old.path.device }
         ensures area { area_of self.new ≡ area_of self.old }
@@ -195,7 +177,7 @@ impl<B: Feeder> MapChannelOf<B> {
 }
 
 impl<B: Feeder> Channel<B> for MapChannelOf<B> {
-    ghost use Rattle.pcm_map.specs.Channels.{IsMapUnopened, MapKeeps};
+    ghost use Rattle.pcm_map.specs.Channels.{IsMapUnopened, MapBegins};
 
     ghost path = { λ channel. channel.path };
 
@@ -204,11 +186,10 @@ impl<B: Feeder> Channel<B> for MapChannelOf<B> {
     ghost is_unopened = { IsMapUnopened B.kind B.kept };
 
     ghost begins = { λ filters settings.
-        ChannelMoves (λ channel. channel.path) (λ channel. channel.book) (map_begun settings) (MapKeeps B.kind B.kept filters (λ area. area)) };
+        ChannelMoves (λ channel. channel.path) (λ channel. channel.book) (map_begun settings) (MapBegins B.kind B.kept filters) };
 
     fn new(alloc: Global, device: Device, tables: &Tables, rack: RackOf<B>) -> Made<Self>
-        requires device { HasRates device }
-        requires kinds { IsRack B.kind rack }
+        requires { CanServe B.kind device rack }
         ensures unopened { IfOk result (IsMapUnopened B.kind B.kept tables.now device) }
         ensures boxes { IfOk result (λ made. HasRack B.mark rack made.path.chain) }
     {

@@ -1,6 +1,7 @@
 -- Volumes: the left side in the low byte, the right side in the next.
-use Rattle.std.specs.Prelude.{ℕ, ◌*◌, ◌/◌, ◌%◌, Bool, ◌&&◌, nat_le, nat_lt}
+use Rattle.std.specs.Prelude.{◌≡◌, ℕ, ◌*◌, ◌/◌, ◌%◌, Bool, ◌&&◌, nat_le, nat_lt}
 use Rattle.pcm_feeder.specs.declared.stage.Gain.{Gain}
+use Rattle.pcm_feeder.specs.Limits.{IsGain}
 
 -- from 0 to 100 on each side, and no higher bit
 abbrev pub is_volume : ℕ → Bool
@@ -12,3 +13,8 @@ gain_of volume = record {
   left = volume % 256 * 65536 / 100;
   right = volume / 256 % 256 * 65536 / 100;
 }
+
+-- the gain of a volume, which is at most one on each side
+pub record IsGainOf (volume : ℕ) (gain : Gain) : Type 0 where
+  pub value : gain ≡ gain_of volume
+  pub limits : IsGain gain

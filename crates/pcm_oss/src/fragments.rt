@@ -1,6 +1,6 @@
 //! The fragments of a ring, and the number that asks for them.
 
-ghost use Rattle.std.specs.Prelude.{◌≡◌};
+ghost use Rattle.std.specs.Prelude.{◌≡◌, ◌≤◌};
 ghost use Rattle.pcm_oss.specs.Fragments.{AreFragments, fragment_size, fragments_asked, fragments_told, ring_size};
 
 /// The greatest ring of a channel, in bytes.
@@ -42,7 +42,7 @@ impl Fragments {
 
     /// The bytes of one fragment.
     pub fn bytes(&self) -> u32
-        requires { AreFragments self.now }
+        requires { self.now.log ≤ 16 }
         ensures { result ≡ fragment_size self.now }
     {
         1 << self.log

@@ -1,8 +1,7 @@
 //! Volumes, and the gains that they mean.
 
 ghost use Rattle.std.specs.Prelude.{◌≡◌, IsTrue};
-ghost use Rattle.pcm_feeder.specs.Limits.{IsGain};
-ghost use Rattle.pcm_oss.specs.Volumes.{gain_of, is_volume};
+ghost use Rattle.pcm_oss.specs.Volumes.{IsGainOf, is_volume};
 
 use pcm_feeder::Gain;
 
@@ -19,8 +18,7 @@ pub fn is_volume(volume: u32) -> bool
 /// The gain of a volume on each side: hundredths of one, rounded down.
 pub fn gain_of(volume: u32) -> Gain
     requires { IsTrue (is_volume volume) }
-    ensures value { result ≡ gain_of volume }
-    ensures limits { IsGain result }
+    ensures { IsGainOf volume result }
 {
     Gain {
         left: volume % 256 * 65536 / 100,

@@ -1,7 +1,7 @@
 -- What a contract sees of a `MemSink`: a buffer whose listed puts fail.
 use Rattle.std.specs.Prelude.{ℕ, ◌+◌, Bool, true, ◌||◌, List, [], ◌++◌, length, nat_lt}
 use Rattle.pcm_outside.specs.Counts.{raised}
-use Rattle.pcm_outside.specs.Calls.{Calls, is_next_listed, counted}
+use Rattle.pcm_outside.specs.Calls.{Calls, is_next_listed, counted, with_listed}
 use Rattle.pcm_outside.specs.Sink.{SinkSeen}
 
 -- at most `room` bytes were put
@@ -14,6 +14,10 @@ pub record Buffer : Type 0 where
 -- a buffer of nothing
 abbrev pub empty_buffer : ℕ → Buffer
 empty_buffer room = record { room = room; bytes = []; calls = record { made = 0; listed = [] }; faults = 0 }
+
+-- the buffer with one more put that is to fail
+abbrev pub with_listed_put : Buffer → ℕ → Buffer
+with_listed_put buffer number = record buffer { calls = with_listed buffer.calls number }
 
 -- what a `Sink` shows of a buffer, always with its bytes
 abbrev pub buffer_seen : Buffer → SinkSeen

@@ -2,7 +2,7 @@
 use Rattle.std.specs.Prelude.{ℕ, ◌+◌, ◌++◌, Bool, true, false, not, ◌||◌, List, [], ◌∷◌, length, Option, Some, None, bytes_eq, nat_lt, option_map, if◌then◌else◌, take}
 use Rattle.std.specs.Option.{option_map_or}
 use Rattle.pcm_outside.specs.Counts.{raised}
-use Rattle.pcm_outside.specs.Calls.{Calls, is_next_listed, counted}
+use Rattle.pcm_outside.specs.Calls.{Calls, is_next_listed, counted, with_listed}
 use Rattle.pcm_outside.specs.Files.{FilesSeen}
 
 -- a name and its content
@@ -39,6 +39,10 @@ empty_folder room = record {
 -- the folder with this content of one more name
 abbrev pub with_added : Folder → List ℕ → List ℕ → Folder
 with_added folder name bytes = record folder { added = record { name = name; bytes = bytes } ∷ folder.added }
+
+-- the folder with one more call that is to fail
+abbrev pub with_listed_call : Folder → ℕ → Folder
+with_listed_call folder number = record folder { calls = with_listed folder.calls number }
 
 -- the content of the newest of these names
 abbrev pub bytes_named : List Named → List ℕ → Option (List ℕ)

@@ -1,11 +1,16 @@
 -- What each call of the outside does, by its result.
-use Rattle.std.specs.Prelude.{◌≢◌, ℕ, List, Result, Err, IfOk, IsErrOf, OnErr, OnOk, Vec}
+use Rattle.std.specs.Prelude.{◌≡◌, ◌≢◌, ℕ, List, Result, Err, IfOk, IsErrOf, OnErr, OnOk, Vec}
 use Rattle.std.specs.Global.{Global}
 use Rattle.pcm_outside.specs.declared.outside.ReadFault.{ReadFault}
 use Rattle.pcm_outside.specs.declared.outside.ReadFault.TheVariants.{Failed}
 use Rattle.pcm_outside.specs.declared.outside.WriteFault.{WriteFault}
 use Rattle.pcm_outside.specs.Files.{FilesSeen, Appends, Creates, FailsToAppend, FailsToCreate, FailsToRead, NoReadFails, OnlyAppends, OnlyReads, OnlyWrites, ReadsFile}
 use Rattle.pcm_outside.specs.Sink.{SinkSeen, FailsToPut, OnlyPuts, Puts}
+
+-- the change to a form in memory is done, or nothing is: what it was before, what it is now, and what it is with the change
+pub record IsDoneOrNot {A E : Type 0} (old new done : A) (result : Result (Unit {0}) E) : Type 0 where
+  pub ok : OnOk result (new ≡ done)
+  pub err : OnErr result (new ≡ old)
 
 -- a read of the first `most` bytes of a name, or all where there are fewer
 pub record DoesRead (old new : FilesSeen) (name : List ℕ) (most : ℕ) (result : Result (Vec ℕ Global) ReadFault) : Type 0 where

@@ -1,5 +1,6 @@
 //! The count of the calls of a form in memory, and the list of those that are to fail.
-ghost use Rattle.std.specs.Prelude.{◌≡◌, [], OnOk, OnErr};
+ghost use Rattle.std.specs.Prelude.{◌≡◌, []};
+ghost use Rattle.pcm_outside.specs.Results.{IsDoneOrNot};
 ghost use Rattle.pcm_outside.specs.Calls.{is_next_listed, counted, with_listed};
 
 use std::alloc::{AllocError, Global};
@@ -32,8 +33,7 @@ impl CallList {
 
     /// Lists a call that is to fail.
     pub(crate) fn fail_at(&mut self, call: u32) -> Result<(), AllocError>
-        ensures ok { OnOk result (self.new ≡ with_listed self.old call) }
-        ensures err { OnErr result (self.new ≡ self.old) }
+        ensures { IsDoneOrNot self.old self.new (with_listed self.old call) result }
     {
         self.listed.insert(0, call)?;
         Ok(())

@@ -1,9 +1,8 @@
 //! A folder in memory whose listed calls fail.
 ghost use Rattle.std.specs.Prelude.{◌≡◌, ◌≢◌, take, IsTrue, IsErrOf, IfOk, OnOk, OnErr, Err, Some, None, is_err, option_copied};
-ghost use Rattle.pcm_outside.specs.Results.{DoesAppend, DoesCreate, DoesRead};
+ghost use Rattle.pcm_outside.specs.Results.{DoesAppend, DoesCreate, DoesRead, IsDoneOrNot};
 ghost use Rattle.pcm_outside.specs.Counts.{raised};
-ghost use Rattle.pcm_outside.specs.Calls.{with_listed};
-ghost use Rattle.pcm_outside.specs.Folder.{empty_folder, with_added, bytes_named, is_created, content_of, folder_seen, read_of, after_call, after_failed_read, is_other_created, create_fails, after_create, after_failed_create, append_fails, after_append, after_failed_append};
+ghost use Rattle.pcm_outside.specs.Folder.{empty_folder, with_added, with_listed_call, bytes_named, is_created, content_of, folder_seen, read_of, after_call, after_failed_read, is_other_created, create_fails, after_create, after_failed_create, append_fails, after_append, after_failed_append};
 
 use crate::calls::CallList;
 use crate::outside::{Files, ReadFault, WriteFault};
@@ -106,8 +105,7 @@ impl MemFiles {
     /// Makes the bytes the content of a name.
     pub fn add(&mut self, name: &str, bytes: &[u8]) -> Result<(), AllocError>
         requires { self.old.created ≡ None }
-        ensures ok { OnOk result (self.new ≡ with_added self.old name.now bytes.now) }
-        ensures err { OnErr result (self.new ≡ self.old) }
+        ensures { IsDoneOrNot self.old self.new (with_added self.old name.now bytes.now) result }
     {
         let alloc = *self.added.allocator();
         let name = Vec::from_slice(alloc, name.as_bytes())?;
@@ -118,9 +116,7 @@ impl MemFiles {
 
     /// Makes the call of this number fail. The first read, create or append has number 1.
     pub fn fail_at(&mut self, call: u32) -> Result<(), AllocError>
-        ensures ok { OnOk result
-            (self.new ≡ record self.old { calls = with_listed self.old.calls call }) }
-        ensures err { OnErr result (self.new ≡ self.old) }
+        ensures { IsDoneOrNot self.old self.new (with_listed_call self.old call) result }
     {
         self.calls.fail_at(call)
     }

@@ -1,8 +1,7 @@
 //! A sink in memory whose listed puts fail.
 ghost use Rattle.std.specs.Prelude.{◌≡◌, IfOk, OnOk, OnErr, is_err};
-ghost use Rattle.pcm_outside.specs.Results.{DoesPut};
-ghost use Rattle.pcm_outside.specs.Calls.{with_listed};
-ghost use Rattle.pcm_outside.specs.Buffer.{empty_buffer, buffer_seen, put_fails, after_put, after_failed_put};
+ghost use Rattle.pcm_outside.specs.Results.{DoesPut, IsDoneOrNot};
+ghost use Rattle.pcm_outside.specs.Buffer.{empty_buffer, with_listed_put, buffer_seen, put_fails, after_put, after_failed_put};
 
 use crate::calls::CallList;
 use crate::outside::{Sink, WriteFault};
@@ -41,9 +40,7 @@ impl MemSink {
 
     /// Makes the put of this number fail. The first one has number 1.
     pub fn fail_at(&mut self, call: u32) -> Result<(), AllocError>
-        ensures ok { OnOk result
-            (self.new ≡ record self.old { calls = with_listed self.old.calls call }) }
-        ensures err { OnErr result (self.new ≡ self.old) }
+        ensures { IsDoneOrNot self.old self.new (with_listed_put self.old call) result }
     {
         self.calls.fail_at(call)
     }

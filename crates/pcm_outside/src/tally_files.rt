@@ -1,7 +1,7 @@
 //! Files that only count: they take all bytes, keep none, and never fail.
-ghost use Rattle.std.specs.Prelude.{◌≡◌, [], true, false, IfOk, IsOk, IsTrue, length};
+ghost use Rattle.std.specs.Prelude.{◌≡◌, [], true, false, IfOk, IsOk, IsTrue};
 ghost use Rattle.pcm_outside.specs.Results.{DoesAppend, DoesCreate, DoesRead};
-ghost use Rattle.pcm_outside.specs.Tallies.{counting_files, taken_more};
+ghost use Rattle.pcm_outside.specs.Tallies.{TakesWhole, counting_files};
 
 use crate::byte_count::ByteCount;
 use crate::outside::{Files, ReadFault, WriteFault};
@@ -63,9 +63,7 @@ impl Files for TallyFiles {
         requires { IsTrue self.old.stands }
         ensures does { DoesAppend (counting_files self.old.stands) (counting_files self.new.stands) piece.now result }
 
-        // The bytes are counted.
-        ensures whole { IsOk result }
-        ensures counted { self.new.taken.total ≡ taken_more self.old.taken.total (length piece.now) }
+        ensures taken { TakesWhole self.old.taken.total self.new.taken.total piece.now result }
     {
         self.taken.take(piece);
         Ok(())

@@ -1,7 +1,7 @@
 //! A sink that only counts: it takes all bytes, keeps none, and never fails.
-ghost use Rattle.std.specs.Prelude.{◌≡◌, IsOk, length};
+ghost use Rattle.std.specs.Prelude.{◌≡◌};
 ghost use Rattle.pcm_outside.specs.Results.{DoesPut};
-ghost use Rattle.pcm_outside.specs.Tallies.{counting_sink, taken_more};
+ghost use Rattle.pcm_outside.specs.Tallies.{TakesWhole, counting_sink};
 
 use crate::byte_count::ByteCount;
 use crate::outside::{Sink, WriteFault};
@@ -36,9 +36,7 @@ impl Sink for TallySink {
     fn put(&mut self, piece: &[u8]) -> Result<(), WriteFault>
         ensures does { DoesPut counting_sink counting_sink piece.now result }
 
-        // The bytes are counted.
-        ensures whole { IsOk result }
-        ensures counted { self.new.taken.total ≡ taken_more self.old.taken.total (length piece.now) }
+        ensures taken { TakesWhole self.old.taken.total self.new.taken.total piece.now result }
     {
         self.taken.take(piece);
         Ok(())

@@ -1,12 +1,10 @@
 //! What a channel's bytes and frames go through.
 
-ghost use Rattle.std.specs.Prelude.{◌≡◌, [], IfOk};
-ghost use Rattle.pcm_oss.specs.declared.fragments.TheConstants.{RING_BYTES};
+ghost use Rattle.std.specs.Prelude.{◌≡◌, IfOk};
 ghost use Rattle.pcm_rate.specs.Rates.{IsRatio};
 ghost use Rattle.pcm_feeder.specs.Limits.{AreFilters, IsRate};
 ghost use Rattle.pcm_feeder.specs.Racks.{IsRack};
 ghost use Rattle.pcm_plan.specs.Plans.{rate_in_plan};
-ghost use Rattle.pcm_chain.specs.Chains.{marks_in, plan_in, HasRack};
 ghost use Rattle.pcm_desk.specs.Device.{HasRates, seen};
 ghost use Rattle.pcm_path.specs.Ways.{plan_between};
 
@@ -28,15 +26,12 @@ pub struct PathOf<B> {
 }
 
 impl<B: Feeder> PathOf<B> {
-    ghost use Rattle.pcm_path.specs.Paths.{CanBegin, HasBoxes, IsEmpty, IsPlanned, Serves};
+    ghost use Rattle.pcm_path.specs.Paths.{CanBegin, HasBegun, HasBoxes, HasEnded, IsMadeOf};
 
     /// A path of a device with the boxes of a rack, for no opening yet. All its memory is taken here.
     pub fn new(alloc: Global, device: Device, rack: RackOf<B>) -> Result<PathOf<B>, AllocError>
         requires kinds { IsRack B.kind rack }
-        ensures device { IfOk result (λ made. made.device ≡ device) }
-        ensures room { IfOk result (λ made. made.ring.max ≡ RING_BYTES) }
-        ensures kinds { IfOk result (λ made. HasBoxes B.kind made) }
-        ensures boxes { IfOk result (λ made. HasRack B.mark rack made.chain) }
+        ensures { IfOk result (IsMadeOf B.kind B.mark device rack) }
     {
         let ring = ByteRing::new(alloc, RING_BYTES as usize)?;
         let chain = ChainOf::new(alloc, rack)?;
@@ -51,12 +46,7 @@ impl<B: Feeder> PathOf<B> {
     /// plan of its settings.
     pub fn begin(&mut self, way: Way, tables: &Tables, opening: &Opening)
         requires can { CanBegin B.kind opening.now self.old }
-        ensures device { self.new.device ≡ self.old.device }
-        ensures serves { Serves opening.now self.new }
-        ensures planned { IsPlanned way tables.now opening.now.settings self.new }
-        ensures kinds { HasBoxes B.kind self.new }
-        ensures marks { marks_in B.mark self.new.chain ≡ marks_in B.mark self.old.chain }
-        ensures empty { IsEmpty B.kept self.new }
+        ensures { HasBegun B.kind B.kept B.mark way tables.now opening.now self.old self.new }
     {
         let plan = plan_of(way, tables, &self.device, &opening.settings);
         let PathOf { ring, chain, .. } = self;
@@ -68,11 +58,7 @@ impl<B: Feeder> PathOf<B> {
     /// A run ends, and nothing of it is left: an empty ring of the same size, and a chain that goes by the same plan.
     pub fn restart(&mut self)
         requires { HasBoxes B.kind self.old }
-        ensures device { self.new.device ≡ self.old.device }
-        ensures ring { self.new.ring ≡ record self.old.ring { bytes = [] } }
-        ensures plan { plan_in self.new.chain ≡ plan_in self.old.chain }
-        ensures kinds { HasBoxes B.kind self.new }
-        ensures empty { IsEmpty B.kept self.new }
+        ensures { HasEnded B.kind B.kept self.old self.new }
     {
         self.ring.clear();
         self.chain.restart();

@@ -10,16 +10,13 @@ pub type Made<T> = Result<T, AllocError>;
 
 /// A channel of one of the ways.
 pub trait Channel<B: Feeder>: Drop {
-    ghost use Rattle.std.specs.Prelude.{◌≡◌, Bool, true, IfOk};
+    ghost use Rattle.std.specs.Prelude.{◌≡◌, Bool, IfOk};
     ghost use Rattle.pcm_format.specs.declared.settings.Settings.{Settings};
     ghost use Rattle.pcm_feeder.specs.Filters.{Filters};
-    ghost use Rattle.pcm_feeder.specs.Limits.{IsRate};
-    ghost use Rattle.pcm_feeder.specs.Racks.{IsRack};
     ghost use Rattle.pcm_chain.specs.Chains.{HasRack};
     ghost use Rattle.pcm_desk.specs.declared.device.Device.{Device};
-    ghost use Rattle.pcm_desk.specs.Device.{HasRates};
     ghost use Rattle.pcm_path.specs.declared.path.PathOf.{PathOf};
-    ghost use Rattle.pcm_path.specs.Paths.{HasBoxes};
+    ghost use Rattle.pcm_path.specs.Paths.{CanServe, CanOpen};
 
     // The way of its sound, with its device.
     ghost path: { Self → PathOf B };
@@ -34,8 +31,7 @@ pub trait Channel<B: Feeder>: Drop {
 
     /// A channel of a device that nobody has opened. All its memory is taken here.
     fn new(alloc: Global, device: Device, tables: &Tables, rack: RackOf<B>) -> Made<Self>
-        requires device { HasRates device }
-        requires kinds { IsRack B.kind rack }
+        requires { CanServe B.kind device rack }
         ensures unopened { IfOk result (is_unopened tables.now device) }
         ensures boxes { IfOk result (λ made. HasRack B.mark rack (path made).chain) };
 
@@ -45,8 +41,6 @@ pub trait Channel<B: Feeder>: Drop {
 
     /// A new opening begins, whose sound goes through the plan of its settings.
     fn begin(&mut self, tables: &Tables, settings: Settings)
-        requires rate { IsRate settings.rate }
-        requires kinds { HasBoxes B.kind (path self.old) }
-        requires free { is_free self.old ≡ true }
+        requires { CanOpen B.kind settings (path self.old) }
         ensures { begins tables.now settings self.old self.new };
 }

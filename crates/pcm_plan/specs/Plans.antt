@@ -1,5 +1,5 @@
 -- Which stages a stream goes through, from settings to settings.
-use Rattle.std.specs.Prelude.{ℕ, Bool, ◌&&◌, ◌==◌, nat_le, if◌then◌else◌, Option, Some, None, List, [], ◌∷◌, ◌++◌, length, position}
+use Rattle.std.specs.Prelude.{◌≡◌, ℕ, Bool, ◌&&◌, ◌==◌, nat_le, if◌then◌else◌, Option, Some, None, List, [], ◌∷◌, ◌++◌, length, position}
 use Rattle.pcm_format.specs.declared.layout.Layout.{Layout}
 use Rattle.pcm_format.specs.declared.settings.Settings.{Settings}
 use Rattle.pcm_format.specs.Formats.{bits_of}
@@ -10,7 +10,7 @@ use Rattle.pcm_feeder.specs.declared.stage.Spec.{Spec}
 use Rattle.pcm_feeder.specs.declared.stage.Spec.TheVariants.{Matrix, Hold, Linear, Poly, Volume, Depth, Eq}
 use Rattle.pcm_feeder.specs.declared.table.Table.{Table}
 use Rattle.pcm_feeder.specs.Filters.{Filters}
-use Rattle.pcm_feeder.specs.Limits.{IsRate}
+use Rattle.pcm_feeder.specs.Limits.{IsRate, AreFilters}
 use Rattle.pcm_feeder.specs.Stages.{rate_of, table_at}
 
 -- a plan: the layouts of both ends, and the stages between them, the first one first
@@ -18,6 +18,11 @@ pub record PlanSeen : Type 0 where
   pub source : Layout
   pub target : Layout
   pub stages : List Spec
+
+-- a stage, where there is one
+abbrev pub some_stages : Option Spec → List Spec
+some_stages None = []
+some_stages (Some spec) = spec ∷ []
 
 -- from layout to layout; between equal ones there is no stage
 abbrev pub matrix_stages : Layout → Layout → List Spec
@@ -96,6 +101,11 @@ plan_record tables quality client device = record {
   stages = converting tables quality device client
       ++ depth_stages (bits_of client.format) (channels_of client.layout);
 }
+
+-- a plan is found by tables within their limits
+pub record IsPlanOf (tables : Filters) (plan found : PlanSeen) : Type 0 where
+  pub value : found ≡ plan
+  pub limits : AreFilters tables
 
 -- the rate of stages: that of the one that changes it
 abbrev pub rate_among : List Spec → Rate

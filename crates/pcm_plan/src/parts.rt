@@ -3,7 +3,7 @@
 ghost use Rattle.std.specs.Prelude.{◌≡◌, ◌<◌, ◌≤◌, ◌+◌, ◌++◌, [], length, IfSome, position};
 ghost use Rattle.arrayvec.specs.ArrayVec.{array_vec_len};
 ghost use Rattle.pcm_feeder.specs.Filters.{as_filters};
-ghost use Rattle.pcm_plan.specs.Plans.{converting, matrix_stages, rate_stages, depth_stages, converter_of, filter_or_line, filter_for, is_for, equaliser_stages};
+ghost use Rattle.pcm_plan.specs.Plans.{converting, some_stages, matrix_stages, rate_stages, depth_stages, converter_of, filter_or_line, filter_for, is_for, equaliser_stages};
 ghost use Rattle.pcm_plan.specs.declared.plan.TheConstants.{STAGES};
 
 use crate::plan::STAGES;
@@ -26,64 +26,78 @@ pub fn push_converting(
 {
     let (from, to) = (source.layout, target.layout);
     let (src, dst) = (source.rate, target.rate);
+    let matrix = matrix_between(from, to);
     if to.channels() <= from.channels() {
-        push_matrix(stages, from, to);
-        push_rate(stages, src, dst, to.channels(), quality, filters);
+        push_some(stages, matrix);
+        let converter = converter_between(src, dst, to.channels(), quality, filters);
+        push_some(stages, converter);
     } else {
-        push_rate(stages, src, dst, from.channels(), quality, filters);
-        push_matrix(stages, from, to);
+        let converter = converter_between(src, dst, from.channels(), quality, filters);
+        push_some(stages, converter);
+        push_some(stages, matrix);
     }
 }
 
-// Appends the stage from layout to layout, where there is one.
-fn push_matrix(stages: &mut ArrayVec<Spec, STAGES>, from: Layout, to: Layout)
+// Appends a stage, where there is one.
+pub fn push_some(stages: &mut ArrayVec<Spec, STAGES>, stage: Option<Spec>)
     requires { array_vec_len stages.old < STAGES }
-    ensures stages { stages.new.items ≡ stages.old.items ++ matrix_stages from to }
+    ensures stages { stages.new.items ≡ stages.old.items ++ some_stages stage }
     ensures room { array_vec_len stages.new ≤ array_vec_len stages.old + 1 }
 {
-    if from.channels() != to.channels() {
-        stages.push(Spec::Matrix { from, to });
+    if let Some(spec) = stage {
+        stages.push(spec);
     }
 }
 
-// Appends the stage from rate to rate, where there is one.
-fn push_rate(
-    stages: &mut ArrayVec<Spec, STAGES>,
+// The stage from layout to layout, where there is one.
+fn matrix_between(from: Layout, to: Layout) -> Option<Spec>
+    ensures { some_stages result ≡ matrix_stages from to }
+{
+    if from.channels() != to.channels() {
+        Some(Spec::Matrix { from, to })
+    } else {
+        None
+    }
+}
+
+// The stage from rate to rate, where there is one.
+fn converter_between(
     src: u32,
     dst: u32,
     channels: usize,
     quality: u32,
     filters: &[Table],
-)
-    requires { array_vec_len stages.old < STAGES }
-    ensures stages { stages.new.items ≡ stages.old.items
-        ++ rate_stages (as_filters filters.now []) quality src dst channels }
-    ensures room { array_vec_len stages.new ≤ array_vec_len stages.old + 1 }
+) -> Option<Spec>
+    ensures { some_stages result
+        ≡ rate_stages (as_filters filters.now []) quality src dst channels }
 {
     if src != dst {
-        stages.push(converter_of(src, dst, channels, quality, filters));
+        Some(converter_of(src, dst, channels, quality, filters))
+    } else {
+        None
     }
 }
 
-// Appends the equaliser, where there are sections.
-pub fn push_equaliser(stages: &mut ArrayVec<Spec, STAGES>, tables: &Tables, channels: usize)
-    requires { array_vec_len stages.old < STAGES }
-    ensures stages { stages.new.items ≡ stages.old.items ++ equaliser_stages tables.now channels }
-    ensures room { array_vec_len stages.new ≤ array_vec_len stages.old + 1 }
+// The equaliser, where there are sections.
+pub fn equaliser_over(tables: &Tables, channels: usize) -> Option<Spec>
+    ensures { some_stages result ≡ equaliser_stages tables.now channels }
 {
     let sections = tables.sections().len();
     if sections != 0 {
-        stages.push(Spec::Eq { channels, sections });
+        Some(Spec::Eq { channels, sections })
+    } else {
+        None
     }
 }
 
-// Appends the stage to fewer bits, where there is one.
-pub fn push_depth(stages: &mut ArrayVec<Spec, STAGES>, bits: u32, channels: usize)
-    requires { array_vec_len stages.old < STAGES }
-    ensures { stages.new.items ≡ stages.old.items ++ depth_stages bits channels }
+// The stage to fewer bits, where there is one.
+pub fn depth_to(bits: u32, channels: usize) -> Option<Spec>
+    ensures { some_stages result ≡ depth_stages bits channels }
 {
     if bits != 32 {
-        stages.push(Spec::Depth { bits, channels });
+        Some(Spec::Depth { bits, channels })
+    } else {
+        None
     }
 }
 

@@ -21,7 +21,7 @@ use Rattle.pcm_oss.specs.declared.reply.Answer.{Answer}
 use Rattle.pcm_oss.specs.declared.reply.Errno.{Errno}
 use Rattle.pcm_desk.specs.declared.turn.Turn.{Turn}
 use Rattle.pcm_desk.specs.Here.{IsHere}
-use Rattle.pcm_path.specs.Paths.{HasBoxes, IsPlanned, LeavesOf, TurnsOf}
+use Rattle.pcm_path.specs.Paths.{CanAdd, HasBoxes, IsPlanned, LeavesOf, TurnsOf}
 use Rattle.pcm_play.specs.declared.channel.PlayChannelOf.{PlayChannelOf}
 
 -- the bytes of a run that were accepted and not yet eaten
@@ -107,6 +107,14 @@ pub record MayAskPlay {B : Type 0} (kind : B → Kind) (filters : Filters) (plac
   pub here : IsHere place
   pub at : IsPlayHere filters place channel
   pub count : channel.book.done + channel.book.written < 2 ^ 64
+
+-- what a channel needs so that an interrupt can mix n of its frames at a gain, where the mix is here
+pub record CanMixPlay {B : Type 0} (kind : B → Kind) (kept : B → Kept) (filters : Filters) (here : Here) (n : ℕ) (gain : Gain)
+    (frames sum : List ℤ) (channel : PlayChannelOf B) : Type 0 where
+  pub adds : CanAdd channel.path.device n gain frames sum
+  pub ready : IsPlayReady kind kept filters channel
+  pub count : channel.book.given + n < 2 ^ 64
+  pub mixed : here.mixed + n < 2 ^ 64
 
 -- what a call leaves of a channel by the turn of its book, and what one by which its book changes so
 abbrev pub PlayTurns : {B : Type 0} → Turn PlayBook → (PlayChannelOf B → PlayChannelOf B → Type 0) → Result Answer Errno → PlayChannelOf B

@@ -1,17 +1,15 @@
 //! A channel that plays: its book, and the path with the bytes that wait and the chain that they go through.
 
-ghost use Rattle.std.specs.Prelude.{◌≡◌, ◌+◌, ◌*◌, ◌^◌, ◌<◌, ◌≤◌, [], length, IfOk, All};
+ghost use Rattle.std.specs.Prelude.{◌≡◌, ◌+◌, ◌*◌, ◌^◌, ◌<◌, ◌≤◌, [], length, All, IfOk};
 ghost use Rattle.pcm_format.specs.Formats.{bits_of};
 ghost use Rattle.pcm_format.specs.Frames.{frame_bytes};
 ghost use Rattle.pcm_num.specs.Limit.{FitsBits};
-ghost use Rattle.pcm_feeder.specs.Limits.{IsGain};
-ghost use Rattle.pcm_feeder.specs.Racks.{IsRack};
-ghost use Rattle.pcm_chain.specs.Chains.{HasRack};
-ghost use Rattle.pcm_desk.specs.Device.{HasRates, seen};
+ghost use Rattle.pcm_desk.specs.Device.{seen};
 ghost use Rattle.pcm_desk.specs.PlayBooks.{is_play_free, is_play_setup, play_begun, play_fill_of, play_is_ready, write_turn};
 ghost use Rattle.pcm_desk.specs.PlaySafe.{PlayIsSafe};
 ghost use Rattle.pcm_desk.proofs.Props.{book_props};
-ghost use Rattle.pcm_path.specs.Paths.{path_rate, ChannelMoves, HoldBlock, Serves};
+ghost use Rattle.pcm_chain.specs.Chains.{HasRack};
+ghost use Rattle.pcm_path.specs.Paths.{path_rate, CanServe, ChannelMoves, Serves};
 ghost use Rattle.std.proofs.Props.{props};
 ghost use Rattle.pcm_desk.specs.Channels.{asking, mixing};
 
@@ -36,7 +34,7 @@ pub struct PlayChannelOf<B> {
 
 impl<B: Feeder> PlayChannelOf<B> {
     ghost use Rattle.pcm_feeder.specs.Filters.{Filters};
-    ghost use Rattle.pcm_play.specs.Channels.{AddsTo, ClosesBook, IsPlayReady, MayAskPlay, MayEndRun, PlayLeaves, PlayMoves, PlayTurns, SettlesBook};
+    ghost use Rattle.pcm_play.specs.Channels.{AddsTo, CanMixPlay, ClosesBook, MayAskPlay, MayEndRun, PlayLeaves, PlayMoves, PlayTurns, SettlesBook};
 
     /// Whether nobody has the channel, and nothing of it is left to play.
     pub fn is_free(&self) -> bool
@@ -131,12 +129,7 @@ impl<B: Feeder> PlayChannelOf<B> {
         frames: &mut [i32],
         sum: &mut [i32],
     )
-        requires some { 0 < n }
-        requires gain { IsGain slot_gain }
-        requires ready { IsPlayReady B.kind B.kept tables.now self.old }
-        requires block { HoldBlock self.old.path.device n frames.old sum.old }
-        requires count { self.old.book.given + n < 2 ^ 64 }
-        requires mixed { here.mixed + n < 2 ^ 64 }
+        requires { CanMixPlay B.kind B.kept tables.now here n slot_gain frames.old sum.old self.old }
         ensures book { self.new.book ≡ mixing (seen tables.now self.old.path.device) here.mixed n self.old.book }
         ensures device { self.new.path.device ≡ self.old.path.device }
         ensures moves { PlayMoves B.kind B.kept tables.now [] n self.old self.new }
@@ -175,8 +168,7 @@ impl<B: Feeder> Channel<B> for PlayChannelOf<B> {
         ChannelMoves (λ channel. channel.path) (λ channel. channel.book) (play_begun settings) (PlayMoves B.kind B.kept filters [] 0) };
 
     fn new(alloc: Global, device: Device, tables: &Tables, rack: RackOf<B>) -> Made<Self>
-        requires device { HasRates device }
-        requires kinds { IsRack B.kind rack }
+        requires { CanServe B.kind device rack }
         ensures unopened { IfOk result (IsPlayUnopened B.kind B.kept tables.now device) }
         ensures boxes { IfOk result (λ made. HasRack B.mark rack made.path.chain) }
     {

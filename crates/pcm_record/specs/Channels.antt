@@ -1,5 +1,5 @@
 -- A channel that records: what it stands for, and what an event changes of it.
-use Rattle.std.specs.Prelude.{◌≡◌, ℕ, ◌+◌, ◌^◌, ◌<◌, ◌≤◌, false, List, [], ◌++◌, length, take, drop, ℤ, Result}
+use Rattle.std.specs.Prelude.{◌≡◌, ℕ, ◌+◌, ◌^◌, ◌<◌, ◌≤◌, false, List, [], ◌++◌, length, take, drop, ℤ, OnErr, Result}
 use Rattle.pcm_format.specs.Frames.{Frame}
 use Rattle.pcm_format.specs.Layouts.{channels_of}
 use Rattle.pcm_rate.specs.Rates.{can}
@@ -19,7 +19,7 @@ use Rattle.pcm_desk.specs.Device.{seen}
 use Rattle.pcm_desk.specs.Channels.{record_rate_at}
 use Rattle.pcm_desk.specs.Desk.{record_unopened}
 use Rattle.pcm_desk.specs.RunStates.{is_unheld}
-use Rattle.pcm_desk.specs.RecordBooks.{keeping}
+use Rattle.pcm_desk.specs.RecordBooks.{keeping, read_turn}
 use Rattle.pcm_sound.specs.Given.{recorded_bytes}
 use Rattle.pcm_oss.specs.declared.event.Way.TheVariants.{Record}
 use Rattle.pcm_desk.specs.declared.turn.Turn.{Turn}
@@ -91,6 +91,19 @@ pub record RecordMoves {B : Type 0} (kind : B → Kind) (keeps : B → Kept) (fi
       (take new.book.captured (frames ++ input))
   pub captured : new.book.captured ≤ old.book.captured + length input
   pub kept : new.book.kept ≤ old.book.kept + RING_BYTES
+
+-- what a read leaves of a channel, and of the bytes that it may fill
+pub record RecordReads {B : Type 0} (kind : B → Kind) (keeps : B → Kept) (result : Result Answer Errno) (old new : RecordChannelOf B)
+    (before after : List ℕ) : Type 0 where
+  pub book : new.book ≡ (read_turn (length before) old.book).book
+  pub reply : result ≡ (read_turn (length before) old.book).reply
+  pub within : bytes_due result ≤ length before
+  pub bytes : GivesUnread keeps old result after
+  pub rest : drop (bytes_due result) after ≡ drop (bytes_due result) before
+  pub refused : OnErr result (new ≡ old)
+  pub kept : OnErr result (after ≡ before)
+  pub device : new.path.device ≡ old.path.device
+  pub moves : (filters : Filters) → RecordMoves kind keeps filters [] 0 old new
 
 -- what a capture of n frames leaves of a channel, which are these samples
 abbrev pub CaptureMoves : {B : Type 0} → (B → Kind) → (B → Kept) → Filters → ℕ → List ℤ → RecordChannelOf B → RecordChannelOf B → Type 0

@@ -1,19 +1,17 @@
 //! A channel that records: its book, and the path with the chain that captured frames go through and the bytes that wait.
 
-ghost use Rattle.std.specs.Prelude.{◌≡◌, ◌+◌, ◌*◌, ◌^◌, ◌<◌, ◌≤◌, [], length, drop, IfOk, OnErr};
+ghost use Rattle.std.specs.Prelude.{◌≡◌, ◌+◌, ◌*◌, ◌^◌, ◌<◌, ◌≤◌, [], length, IfOk};
 ghost use Rattle.pcm_format.specs.Layouts.{channels_of};
 ghost use Rattle.pcm_oss.specs.declared.fragments.TheConstants.{RING_BYTES};
-ghost use Rattle.pcm_oss.specs.Replies.{bytes_due};
-ghost use Rattle.pcm_feeder.specs.Racks.{IsRack};
-ghost use Rattle.pcm_chain.specs.Chains.{HasRack};
 ghost use Rattle.pcm_desk.specs.declared.limits.TheConstants.{RING_FRAMES};
-ghost use Rattle.pcm_desk.specs.Device.{HasRates, seen};
+ghost use Rattle.pcm_desk.specs.Device.{seen};
 ghost use Rattle.pcm_desk.specs.RunStates.{is_unheld, is_in_setup};
-ghost use Rattle.pcm_desk.specs.RecordBooks.{closed, read_turn, record_begun, record_fill_of};
+ghost use Rattle.pcm_desk.specs.RecordBooks.{closed, record_begun, record_fill_of};
 ghost use Rattle.pcm_desk.specs.RecordRequests.{record_ask};
 ghost use Rattle.pcm_desk.specs.RecordSafe.{RecordIsSafe};
 ghost use Rattle.pcm_desk.proofs.Props.{record_props};
-ghost use Rattle.pcm_path.specs.Paths.{path_rate, ChannelMoves, HasBoxes, Serves};
+ghost use Rattle.pcm_chain.specs.Chains.{HasRack};
+ghost use Rattle.pcm_path.specs.Paths.{path_rate, CanServe, ChannelMoves, HasBoxes, Serves};
 ghost use Rattle.std.proofs.Props.{props};
 ghost use Rattle.pcm_desk.specs.Channels.{capturing};
 
@@ -37,7 +35,7 @@ pub struct RecordChannelOf<B> {
 
 impl<B: Feeder> RecordChannelOf<B> {
     ghost use Rattle.pcm_feeder.specs.Filters.{Filters};
-    ghost use Rattle.pcm_record.specs.Channels.{CaptureFits, CaptureMoves, GivesUnread, IsRecordServed, MayAskRecord, RecordLeaves, RecordMoves, RecordStandsForSome, RecordTurns};
+    ghost use Rattle.pcm_record.specs.Channels.{CaptureFits, CaptureMoves, IsRecordServed, MayAskRecord, RecordLeaves, RecordMoves, RecordReads, RecordStandsForSome, RecordTurns};
 
     /// Whether nobody has the channel.
     pub fn is_free(&self) -> bool
@@ -55,15 +53,7 @@ impl<B: Feeder> RecordChannelOf<B> {
 
     /// Moves the bytes that have waited longest to the front of `out`, as many as there are, and answers how many.
     pub fn read(&mut self, out: &mut [u8]) -> Result<Answer, Errno>
-        ensures book { self.new.book ≡ (read_turn (length out.old) self.old.book).book }
-        ensures reply { result ≡ (read_turn (length out.old) self.old.book).reply }
-        ensures within { bytes_due result ≤ length out.old }
-        ensures bytes { GivesUnread B.kept self.old result out.new }
-        ensures rest { drop (bytes_due result) out.new ≡ drop (bytes_due result) out.old }
-        ensures refused { OnErr result (self.new ≡ self.old) }
-        ensures kept { OnErr result (out.new ≡ out.old) }
-        ensures device { self.new.path.device ≡ self.old.path.device }
-        ensures moves { (filters : Filters) → RecordMoves B.kind B.kept filters [] 0 self.old self.new }
+        ensures { RecordReads B.kind B.kept result self.old self.new out.old out.new }
     {
         let turn = self.book.read(out.len() as u64);
         let answer = turn.reply?;
@@ -132,8 +122,7 @@ impl<B: Feeder> Channel<B> for RecordChannelOf<B> {
         ChannelMoves (λ channel. channel.path) (λ channel. channel.book) (record_begun settings) (RecordMoves B.kind B.kept filters [] 0) };
 
     fn new(alloc: Global, device: Device, tables: &Tables, rack: RackOf<B>) -> Made<Self>
-        requires device { HasRates device }
-        requires kinds { IsRack B.kind rack }
+        requires { CanServe B.kind device rack }
         ensures unopened { IfOk result (IsRecordUnopened B.kind B.kept tables.now device) }
         ensures boxes { IfOk result (λ made. HasRack B.mark rack made.path.chain) }
     {

@@ -6,3 +6,4 @@ pub mod Outcomes
 pub mod Endings
 pub mod Accepted
 pub mod Playing
+pub mod Asked

@@ -1,11 +1,10 @@
 //! What the words ask for is done: what it works on is read and judged, and then it is written.
 
 ghost use Rattle.std.specs.Prelude.{IfErr, IfOk};
-ghost use Rattle.pcm_feeder.specs.Limits.{IsRate};
 ghost use Rattle.pcm_feeder.specs.Racks.{AreRacks, list_of};
-ghost use Rattle.pcm_wave.specs.Headers.{IsWaveFormat};
 ghost use Rattle.pcm_verdict.specs.Commands.{CheckScript, ConvertWave, RunScript, SoakRun};
-ghost use Rattle.pcm_inputs.specs.Commands.{AreLimits, command_seen, named};
+ghost use Rattle.pcm_inputs.specs.Commands.{command_seen, named};
+ghost use Rattle.pcm_replay.specs.Asked.{CanConvertTo, CanDo};
 ghost use Rattle.pcm_replay.specs.Endings.{DoesCommand, EndsCommand};
 ghost use Rattle.pcm_inputs.specs.Outside.{both, ◌over◌};
 
@@ -28,8 +27,7 @@ pub fn do_command<B: Feeder, F: Files, K: Sink>(
     out: &mut K,
     racks: RacksOf<B>,
 ) -> Result<Option<EngineOf<B>>, Ending>
-    requires kinds { AreRacks B.kind (list_of racks) }
-    requires limits { AreLimits command }
+    requires { CanDo B.kind racks command }
     ensures ok { IfOk result (DoesCommand B.kind B.kept (command_seen command.entry) over both F.seen K.seen files out) }
     ensures err { IfErr result (EndsCommand (command_seen command.entry) over both F.seen K.seen files out) }
 {
@@ -98,9 +96,7 @@ fn convert<B: Feeder, F: Files, K: Sink>(
     racks: RacksOf<B>,
     name: &str,
 ) -> Result<Option<EngineOf<B>>, Ending>
-    requires kinds { AreRacks B.kind (list_of racks) }
-    requires rate { IsRate target.rate }
-    requires format { IsWaveFormat target.format }
+    requires { CanConvertTo B.kind racks target }
     ensures ok { IfOk result (DoesCommand B.kind B.kept
         (ConvertWave input.now name.now target) over both F.seen K.seen files out) }
     ensures err { IfErr result (EndsCommand (ConvertWave input.now name.now target) over both F.seen K.seen files out) }

@@ -1,15 +1,12 @@
 //! The engine of a run, with the room for what one event gives.
 
-ghost use Rattle.std.specs.Prelude.{◌≡◌, ◌+◌, ◌<◌, ◌≤◌, IfOk, IsTrue, OnErr, OnOk, length, take};
+ghost use Rattle.std.specs.Prelude.{◌≡◌, ◌+◌, ◌≤◌, IfOk, OnErr, OnOk, take};
 ghost use Rattle.pcm_sequence.specs.Fixed.{fixed_items, fixed_len};
 ghost use Rattle.pcm_wave.specs.declared.pool.Pool.{Pool};
-ghost use Rattle.pcm_desk.specs.declared.limits.TheConstants.{EVENTS};
-ghost use Rattle.pcm_desk.specs.Device.{IsInLimits, seen};
-ghost use Rattle.pcm_feeder.specs.Racks.{AreRacks, list_of};
-ghost use Rattle.pcm_engine.specs.Engines.{device_of};
+ghost use Rattle.pcm_desk.specs.Device.{seen};
+ghost use Rattle.pcm_engine.specs.Engines.{device_of, CanBeMade};
 ghost use Rattle.pcm_replay.specs.Playback.{playback};
-ghost use Rattle.pcm_soak_command.specs.Running.{CanRun};
-ghost use Rattle.pcm_replay.specs.Playing.{HasPlayed, greatest_taken};
+ghost use Rattle.pcm_replay.specs.Playing.{CanPlayNext, CanStepNext, HasPlayed, greatest_taken};
 ghost use Rattle.pcm_inputs.specs.Outside.{both, ◌over◌};
 ghost use Rattle.pcm_replay.specs.Turns.{CutsNext, IsNext, OnlyAdds, WritesNext};
 
@@ -49,8 +46,7 @@ impl<B: Feeder> ReplayOf<B> {
         racks: RacksOf<B>,
         events: &[Event],
     ) -> Result<ReplayOf<B>, AllocError>
-        requires limits { IsInLimits (seen tables device.now) }
-        requires kinds { AreRacks B.kind (list_of racks) }
+        requires { CanBeMade B.kind tables device.now racks }
         ensures played { IfOk result (λ replay. (pool : Pool) → HasPlayed B.kind B.kept replay pool events.now 0) }
         ensures device { IfOk result (λ replay. device_of replay.engine ≡ seen tables device.now) }
     {
@@ -72,10 +68,7 @@ impl<B: Feeder> ReplayOf<B> {
         files: &mut F,
         out: &mut K,
     ) -> Result<(), WriteFault>
-        requires created { IsTrue (F.seen files.old).stands }
-        requires there { at < length events.now }
-        requires events { CanRun EVENTS (device_of self.old.engine) pool.now events.now }
-        requires played { HasPlayed B.kind B.kept self.old pool.now events.now at }
+        requires { CanPlayNext B.kind B.kept (F.seen files.old) self.old pool.now events.now at }
         ensures played { HasPlayed B.kind B.kept self.new pool.now events.now (at + 1) }
         ensures device { device_of self.new.engine ≡ device_of self.old.engine }
         ensures only { OnlyAdds over both F.seen K.seen files out }
@@ -90,9 +83,7 @@ impl<B: Feeder> ReplayOf<B> {
 
     // Steps the engine through one event. What it gives stands at the front of the rooms.
     fn step_at(&mut self, events: &[Event], pool: &Pool, at: usize) -> Filled
-        requires there { at < length events.now }
-        requires events { CanRun EVENTS (device_of self.old.engine) pool.now events.now }
-        requires played { HasPlayed B.kind B.kept self.old pool.now events.now at }
+        requires { CanStepNext B.kind B.kept self.old pool.now events.now at }
         ensures played { HasPlayed B.kind B.kept self.new pool.now events.now (at + 1) }
         ensures device { device_of self.new.engine ≡ device_of self.old.engine }
         ensures next { IsNext (playback (device_of self.old.engine) pool.now events.now) at

@@ -1,17 +1,15 @@
 //! The run of a script: all memory is taken, and then it is played.
 
-ghost use Rattle.std.specs.Prelude.{◌≡◌, ◌*◌, ◌≤◌, IfErr, IfOk, OnOk, length, true};
-ghost use Rattle.pcm_wave.specs.Pools.{IsCaptureIn};
-ghost use Rattle.pcm_desk.specs.declared.limits.TheConstants.{DEVICE_BYTES, EVENTS};
-ghost use Rattle.pcm_desk.specs.Device.{IsInLimits, device_frame_bytes, seen, unfiltered};
+ghost use Rattle.std.specs.Prelude.{◌≡◌, ◌*◌, ◌≤◌, IfErr, IfOk, OnOk, true};
+ghost use Rattle.pcm_desk.specs.declared.limits.TheConstants.{DEVICE_BYTES};
+ghost use Rattle.pcm_desk.specs.Device.{device_frame_bytes, seen, unfiltered};
 ghost use Rattle.pcm_feeder.specs.Filters.{Filters};
 ghost use Rattle.pcm_feeder.specs.Limits.{IsRate};
-ghost use Rattle.pcm_feeder.specs.Racks.{AreRacks, list_of};
-ghost use Rattle.pcm_config.specs.Configs.{IsHeld, can_hold, device_seen};
-ghost use Rattle.pcm_script.specs.Lines.{AllFit, bytes_taken};
-ghost use Rattle.pcm_verdict.specs.Outputs.{file_header, inputs_pool};
+ghost use Rattle.pcm_config.specs.Configs.{can_hold};
+ghost use Rattle.pcm_verdict.specs.Outputs.{file_header};
 ghost use Rattle.pcm_verdict.specs.Verdict.{Runs};
 ghost use Rattle.pcm_inputs.specs.declared.ending.Ending.TheVariants.{NoMemory};
+ghost use Rattle.pcm_replay.specs.Asked.{CanRunScript};
 ghost use Rattle.pcm_replay.specs.Endings.{Cuts, Does, RanInputs};
 ghost use Rattle.pcm_inputs.specs.Outside.{both, ◌over◌};
 ghost use Rattle.pcm_inputs.specs.Parts.{inputs_seen};
@@ -37,13 +35,7 @@ pub fn run_script<B: Feeder, F: Files, K: Sink>(
     out: &mut K,
     name: &str,
 ) -> Result<EngineOf<B>, Ending>
-    requires kinds { AreRacks B.kind (list_of racks) }
-    requires limits { IsInLimits (device_seen inputs.config) }
-    requires container { IsHeld inputs.config }
-    requires fits { AllFit (device_seen inputs.config) inputs.files inputs.script }
-    requires captures { IsCaptureIn inputs.config.device.settings.layout (inputs_pool (inputs_seen inputs)) }
-    requires count { length inputs.script.events ≤ EVENTS }
-    requires frames { bytes_taken (device_seen inputs.config) inputs.script ≤ DEVICE_BYTES }
+    requires { CanRunScript B.kind racks inputs }
     ensures ran { IfOk result (λ engine. RanInputs B.kind B.kept engine (inputs_seen inputs)) }
     ensures ok { OnOk result (Does (Runs name.now (inputs_seen inputs)) over both F.seen K.seen files out) }
     ensures err { IfErr result (Cuts (Runs name.now (inputs_seen inputs)) over both F.seen K.seen files out) }

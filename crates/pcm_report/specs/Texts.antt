@@ -16,3 +16,9 @@ pub record HasTextRoom (text_bytes read_bytes from : ℕ) (read old : List ℕ) 
 pub record IsPutWithin (most : ℕ) (text : List ℕ) (from to : ℕ) (old new : List ℕ) : Type 0 where
   pub put : IsPut text from to old new
   pub within : to ≤ from + most
+
+-- a line of so many bytes or fewer stands at the front of a slice; what comes after it is as it was
+pub record IsLinePut (most : ℕ) (text : List ℕ) (to : ℕ) (old new : List ℕ) : Type 0 where
+  pub line : take to new ≡ text
+  pub rest : drop to new ≡ drop to old
+  pub within : to ≤ most

@@ -1,10 +1,10 @@
 //! The line of one reply.
 
-ghost use Rattle.std.specs.Prelude.{◌≡◌, ◌+◌, ◌≤◌, length, take, drop};
-ghost use Rattle.pcm_oss.specs.declared.reply.Answer.TheVariants.{Space, Pointer, Errors, Got};
+ghost use Rattle.std.specs.Prelude.{◌≡◌, ◌+◌, ◌≤◌, length};
+ghost use Rattle.pcm_oss.specs.declared.reply.Answer.TheVariants.{Space, Pointer};
 ghost use Rattle.pcm_oss.specs.declared.reply.TheConstants.{REPLY_BYTES};
 ghost use Rattle.pcm_report.specs.Lines.{answer_text, errno_word, plain_answer, reply_line, result_text};
-ghost use Rattle.pcm_report.specs.Texts.{HasTextRoom, IsPutWithin};
+ghost use Rattle.pcm_report.specs.Texts.{HasTextRoom, IsLinePut, IsPutWithin};
 
 use crate::texts::{put_bytes, put_field, put_number, put_text};
 use pcm_oss::{Answer, Errno, ReplyBuf};
@@ -18,9 +18,7 @@ const TEXT_BYTES: usize = 8256;
 /// Writes the line of the reply to event `number` to the front of `out`. Returns how many bytes it has.
 pub fn write_line(number: u32, reply: &ReplyBuf, out: &mut [u8]) -> usize
     requires room { LINE_BYTES ≤ length out.old }
-    ensures line { take result out.new ≡ reply_line number reply.now }
-    ensures rest { drop result out.new ≡ drop result out.old }
-    ensures within { result ≤ LINE_BYTES }
+    ensures { IsLinePut LINE_BYTES (reply_line number reply.now) result out.old out.new }
 {
     let at = put_number(out, 0, u64::from(number));
     let at = put_text(out, at, ": ");
@@ -75,8 +73,17 @@ fn put_answer(out: &mut [u8], at: usize, answer: Answer, read: &[u8]) -> usize
         Answer::Errors {
             underruns,
             overruns,
-        } => put_errors(out, at, underruns, overruns),
-        Answer::Got(count) => put_got(out, at, count, read),
+        } => {
+            let at = put_text(out, at, "ok");
+            let at = put_field(out, at, "underruns", u64::from(underruns));
+            put_field(out, at, "overruns", u64::from(overruns))
+        }
+        Answer::Got(count) => {
+            let at = put_text(out, at, "ok ");
+            let at = put_number(out, at, u64::from(count));
+            let at = put_text(out, at, " ");
+            put_bytes(out, at, read)
+        }
     }
 }
 
@@ -106,23 +113,4 @@ fn put_pointer(out: &mut [u8], at: usize, bytes: u64, blocks: u64, ptr: u32) -> 
     let at = put_field(out, at, "bytes", bytes);
     let at = put_field(out, at, "blocks", blocks);
     put_field(out, at, "ptr", u64::from(ptr))
-}
-
-fn put_errors(out: &mut [u8], at: usize, underruns: u32, overruns: u32) -> usize
-    requires room { at + TEXT_BYTES ≤ length out.old }
-    ensures { IsPutWithin TEXT_BYTES (plain_answer (Errors underruns overruns)) at result out.old out.new }
-{
-    let at = put_text(out, at, "ok");
-    let at = put_field(out, at, "underruns", u64::from(underruns));
-    put_field(out, at, "overruns", u64::from(overruns))
-}
-
-fn put_got(out: &mut [u8], at: usize, count: u32, read: &[u8]) -> usize
-    requires { HasTextRoom TEXT_BYTES REPLY_BYTES at read.now out.old }
-    ensures { IsPutWithin TEXT_BYTES (answer_text (Got count) read.now) at result out.old out.new }
-{
-    let at = put_text(out, at, "ok ");
-    let at = put_number(out, at, u64::from(count));
-    let at = put_text(out, at, " ");
-    put_bytes(out, at, read)
 }

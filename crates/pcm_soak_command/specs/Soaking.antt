@@ -1,5 +1,5 @@
 -- How far the run of a number's script has come, and the line that it is to print.
-use Rattle.std.specs.Prelude.{◌≡◌, ℕ, ◌*◌, ◌^◌, ◌≤◌, List, length}
+use Rattle.std.specs.Prelude.{◌≡◌, ℕ, ◌*◌, ◌^◌, ◌<◌, ◌≤◌, List, length, take}
 use Rattle.pcm_sequence.specs.Fixed.{fixed_len}
 use Rattle.pcm_oss.specs.declared.event.Event.{Event}
 use Rattle.pcm_wave.specs.declared.pool.Pool.{Pool}
@@ -8,10 +8,11 @@ use Rattle.pcm_desk.specs.Usual.{usual_device}
 use Rattle.pcm_feeder.specs.declared.kind.Kind.{Kind}
 use Rattle.pcm_feeder.specs.Kept.{Kept}
 use Rattle.pcm_engine.specs.declared.engine.EngineOf.{EngineOf}
+use Rattle.pcm_soak.specs.declared.limits.TheConstants.{SOAK_EVENTS}
 use Rattle.pcm_soak.specs.Soak.{soak_script}
 use Rattle.pcm_soak.specs.Tallies.{IsWithin}
 use Rattle.pcm_verdict.specs.Soaks.{soak_pool, tally_line, tally_of}
-use Rattle.pcm_soak_command.specs.Running.{RanThrough}
+use Rattle.pcm_soak_command.specs.Running.{CanRun, RanThrough}
 use Rattle.pcm_soak_command.specs.declared.soak.SoakOf.{SoakOf}
 use Rattle.pcm_soak_command.specs.declared.tally_line.TheConstants.{TALLY_BYTES}
 
@@ -27,6 +28,13 @@ pub record HasSoaked {B : Type 0} (kind : B → Kind) (kept : B → Kept) (soak 
   pub sum : soak.tally.sum ≤ 2 ^ 33 * length events
   pub room : fixed_len soak.block ≡ ring_room usual_device
   pub line_room : fixed_len soak.line ≡ TALLY_BYTES
+
+-- the events before a place were run, and the one that stands there can be
+pub record CanSoakNext {B : Type 0} (kind : B → Kind) (kept : B → Kept) (soak : SoakOf B) (pool : Pool) (events : List Event) (at : ℕ) :
+    Type 0 where
+  pub there : at < length events
+  pub runs : CanRun SOAK_EVENTS usual_device pool events
+  pub soaked : HasSoaked kind kept soak pool (take at events)
 
 -- the line of the tally of these events, and of how many frames their interrupts take
 abbrev pub line_of : ℕ → Pool → List Event → List ℕ

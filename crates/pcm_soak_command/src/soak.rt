@@ -1,6 +1,6 @@
 //! The run of a script that a number makes: its tally is added up, and reported in one line.
 
-ghost use Rattle.std.specs.Prelude.{◌+◌, ◌<◌, [], IfErr, IfOk, OnErr, OnOk, length, take};
+ghost use Rattle.std.specs.Prelude.{◌+◌, [], IfErr, IfOk, OnErr, OnOk, take};
 ghost use Rattle.pcm_outside.specs.Sink.{FailsToPut, Puts};
 ghost use Rattle.pcm_wave.specs.declared.pool.Pool.{Pool};
 ghost use Rattle.pcm_desk.specs.Usual.{usual_device};
@@ -9,7 +9,7 @@ ghost use Rattle.pcm_soak.specs.declared.limits.TheConstants.{SOAK_EVENTS};
 ghost use Rattle.pcm_verdict.specs.Soaks.{soak_line};
 ghost use Rattle.pcm_inputs.specs.Faults.{CutsLines};
 ghost use Rattle.pcm_soak_command.specs.Running.{CanRun};
-ghost use Rattle.pcm_soak_command.specs.Soaking.{HasSoaked, RanSoak, line_of};
+ghost use Rattle.pcm_soak_command.specs.Soaking.{CanSoakNext, HasSoaked, RanSoak, line_of};
 
 use crate::tally_line::{TALLY_BYTES, write_tally};
 use pcm_config::default_config;
@@ -55,9 +55,7 @@ impl<B: Feeder> SoakOf<B> {
 
     // Steps the engine through one event, and adds it to the tally.
     fn step_at(&mut self, events: &[Event], pool: &Pool, at: usize)
-        requires there { at < length events.now }
-        requires events { CanRun SOAK_EVENTS usual_device pool.now events.now }
-        requires soaked { HasSoaked B.kind B.kept self.old pool.now (take at events.now) }
+        requires { CanSoakNext B.kind B.kept self.old pool.now events.now at }
         ensures soaked { HasSoaked B.kind B.kept self.new pool.now (take (at + 1) events.now) }
     {
         let event = &events[at];

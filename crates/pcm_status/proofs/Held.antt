@@ -1,6 +1,7 @@
 -- What a descriptor of an engine holds.
-use Rattle.std.proofs.Common.{◌≡◌, ℕ, ◌<◌, true, false, Some, refl, sym, ap, ◌∙◌, subst, arith, Bool}
+use Rattle.std.proofs.Common.{◌≡◌, ℕ, ◌<◌, length, true, false, Some, refl, sym, ap, ◌∙◌, subst, arith, Bool}
 use Rattle.std.specs.Prelude.{Option, not}
+use Rattle.std.proofs.lemmas.List.{length-map}
 use Rattle.pcm_sequence.proofs.Items.{items-count}
 use Rattle.pcm_feeder.specs.declared.kind.Kind.{Kind}
 use Rattle.pcm_feeder.specs.Kept.{Kept}
@@ -17,11 +18,13 @@ use Rattle.pcm_desk.specs.declared.map_book.MapBook.{MapBook}
 use Rattle.pcm_desk.specs.Device.{map_slots, play_slots, record_slots}
 use Rattle.pcm_desk.specs.Channels.{is_held, map_rate_at, play_rate_at, record_rate_at, may_be_held}
 use Rattle.pcm_desk.specs.Desk.{desk_here, held_by, map_at, play_at, record_at, channel_at}
-use Rattle.pcm_desk.specs.PlayBooks.{is_play_free}
+use Rattle.pcm_desk.specs.Own.{slots_of}
+use Rattle.pcm_desk.specs.PlayBooks.{is_play_free, is_started}
 use Rattle.pcm_desk.specs.RunStates.{is_unheld}
 use Rattle.pcm_desk.specs.PlaySafe.{PlayIsHere, PlayIsSafe}
 use Rattle.pcm_desk.specs.RecordSafe.{RecordIsSafe}
 use Rattle.pcm_desk.specs.MapSafe.{MapIsSafe}
+use Rattle.pcm_vchan.specs.Parents.{map_books, map_channels, play_books, play_channels}
 use Rattle.pcm_engine.specs.declared.engine.EngineOf.{EngineOf}
 use Rattle.pcm_engine.specs.Engines.{AreReady, desk_of, device_of}
 use Rattle.pcm_engine.proofs.Turning.{map-there, play-there, record-there}
@@ -50,7 +53,30 @@ map-slot engine fd held e way =
     let count = engine.parent.maps_count in
     omega (arith, there, count, items-count engine.parent.maps)
 
+-- the same of a slot that is one of its way
+pub play-within : {B : Type 0} (engine : EngineOf B) (held : Held) → held.slot < slots_of (desk_of engine) held.way → held.way ≡ Play → held.slot < play_slots (device_of engine)
+play-within engine held within way =
+    let there : held.slot < length (desk_of engine).play = subst (λ (w : Way). held.slot < slots_of (desk_of engine) w) way within in
+    let books : length (play_books engine.parent) ≡ length (play_channels engine.parent) = length-map _ _ in
+    let count = engine.parent.slots in
+    omega (arith, there, count, books, items-count engine.parent.channels)
+
+pub map-within : {B : Type 0} (engine : EngineOf B) (held : Held) → held.slot < slots_of (desk_of engine) held.way → held.way ≡ Map → held.slot < map_slots (device_of engine)
+map-within engine held within way =
+    let there : held.slot < length (desk_of engine).mapped = subst (λ (w : Way). held.slot < slots_of (desk_of engine) w) way within in
+    let books : length (map_books engine.parent) ≡ length (map_channels engine.parent) = length-map _ _ in
+    let count = engine.parent.maps_count in
+    omega (arith, there, count, books, items-count engine.parent.maps)
+
 -- ---- that it isn't free
+
+-- a run that is started is of a slot that is taken
+pub started-taken : (state : PlayState) → is_started state ≡ true → is_play_free state ≡ false
+started-taken Free started = cc
+started-taken Setup started = cc
+started-taken Primed started = cc
+started-taken Running started = refl
+started-taken (Draining closed) started = refl
 
 unfree : (state : PlayState) → is_held state ≡ true → is_play_free state ≡ false
 unfree Free held = cc

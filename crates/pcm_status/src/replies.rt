@@ -1,33 +1,32 @@
 //! What a request would be answered.
 
-ghost use Rattle.std.specs.Prelude.{◌≡◌, ◌<◌, Some, false};
+ghost use Rattle.std.specs.Prelude.{◌≡◌, Some, false};
 ghost use Rattle.pcm_oss.specs.declared.event.Event.TheVariants.{Ioctl};
 ghost use Rattle.pcm_oss.specs.declared.event.Way.TheVariants.{Play};
-ghost use Rattle.pcm_desk.specs.Device.{play_slots};
-ghost use Rattle.pcm_desk.specs.Channels.{asking, member_refusal};
+ghost use Rattle.pcm_desk.specs.Channels.{asking};
 ghost use Rattle.pcm_desk.specs.Desk.{desk_here, play_at};
-ghost use Rattle.pcm_desk.specs.Own.{slots_of};
 ghost use Rattle.pcm_desk.specs.PlayBooks.{is_play_free};
 ghost use Rattle.pcm_engine.specs.Desks.{channel_asked};
-ghost use Rattle.pcm_engine.specs.Engines.{AreReady, desk_of, device_of};
-ghost use Rattle.pcm_status.specs.Asked.{CanAskOf};
+ghost use Rattle.pcm_engine.specs.Engines.{desk_of, device_of};
+ghost use Rattle.pcm_engine.specs.Views.{HasPlayTaken};
+ghost use Rattle.pcm_status.specs.Asked.{CanForesee, HasSlot};
 ghost use Rattle.pcm_status.specs.Statuses.{would};
 
 use pcm_desk::Held;
-use pcm_engine::EngineOf;
+use pcm_engine::{EngineOf, member_refusal};
 use pcm_feeder::Feeder;
 use pcm_oss::{Answer, Errno, Request, Way};
 
 /// What a request of the channel of a descriptor would be answered now. Nothing is done: the next position still counts fragments from the
 /// one answered before, and no shortage is forgotten.
 pub fn reply_of<B: Feeder>(engine: &EngineOf<B>, fd: u8, request: Request) -> Result<Answer, Errno>
-    requires { CanAskOf B.kind B.kept engine.now fd }
+    requires { CanForesee B.kind B.kept engine.now (Ioctl fd request) }
     ensures { result ≡ would (device_of engine.now) (desk_of engine.now) (Ioctl fd request) }
 {
     let Some(held) = engine.held(fd) else {
         return Err(Errno::BadF);
     };
-    match refusal(engine.group_of(held) > 0, request) {
+    match member_refusal(engine.group_of(held) > 0, request) {
         Some(errno) => Err(errno),
         None => channel_reply(engine, held, request),
     }
@@ -39,8 +38,7 @@ fn channel_reply<B: Feeder>(
     held: Held,
     request: Request,
 ) -> Result<Answer, Errno>
-    requires ready { AreReady B.kind B.kept engine.now }
-    requires there { held.slot < slots_of (desk_of engine.now) held.way }
+    requires slot { HasSlot B.kind B.kept engine.now held.way held.slot }
     requires taken { held.way ≡ Play
         → is_play_free (play_at (device_of engine.now) (desk_of engine.now) held.slot).state ≡ false }
     ensures { result
@@ -59,9 +57,7 @@ fn play_reply<B: Feeder>(
     slot: usize,
     request: Request,
 ) -> Result<Answer, Errno>
-    requires ready { AreReady B.kind B.kept engine.now }
-    requires there { slot < play_slots (device_of engine.now) }
-    requires taken { is_play_free (play_at (device_of engine.now) (desk_of engine.now) slot).state ≡ false }
+    requires { HasPlayTaken B.kind B.kept engine.now slot }
     ensures { result ≡ (asking (device_of engine.now) (desk_here (device_of engine.now) (desk_of engine.now))
         request (play_at (device_of engine.now) (desk_of engine.now) slot)).reply }
 {
@@ -72,18 +68,4 @@ fn play_reply<B: Feeder>(
         .play_book(slot)
         .asked(rate, mix_rate, here, request)
         .reply
-}
-
-// What a member of a group is refused.
-fn refusal(member: bool, request: Request) -> Option<Errno>
-    ensures { result ≡ member_refusal member request }
-{
-    match request {
-        Request::SetTrigger(bits) if member => Some(if bits > 3 {
-            Errno::Inval
-        } else {
-            Errno::Busy
-        }),
-        _ => None,
-    }
 }

@@ -1,13 +1,12 @@
 //! The status of a channel and of a slot.
 
 ghost use Rattle.std.specs.Prelude.{◌≡◌, ◌<◌, IfSome};
-ghost use Rattle.pcm_desk.specs.Own.{slots_of};
 ghost use Rattle.pcm_desk.specs.Device.{play_slots};
 ghost use Rattle.pcm_oss.specs.Fragments.{AreFragments};
 ghost use Rattle.pcm_oss.specs.declared.event.Way.TheVariants.{Play};
 ghost use Rattle.pcm_rate.specs.Rates.{IsRatio};
 ghost use Rattle.pcm_engine.specs.Engines.{AreReady, desk_of, device_of};
-ghost use Rattle.pcm_status.specs.Asked.{CanAskOf};
+ghost use Rattle.pcm_status.specs.Asked.{CanAskOf, HasSlot};
 ghost use Rattle.pcm_status.specs.Statuses as statuses;
 ghost use Rattle.pcm_status.specs.Statuses.{other_run, play_run, still_given, taken_slot};
 
@@ -79,8 +78,7 @@ pub fn client_status<B: Feeder>(engine: &EngineOf<B>, fd: u8) -> Option<ChannelS
 
 // The status of a channel that a descriptor holds.
 fn held_status<B: Feeder>(engine: &EngineOf<B>, held: Held) -> ChannelStatus
-    requires ready { AreReady B.kind B.kept engine.now }
-    requires there { held.slot < slots_of (desk_of engine.now) held.way }
+    requires { HasSlot B.kind B.kept engine.now held.way held.slot }
     ensures fragments { AreFragments result.fragments }
     ensures is { result ≡ statuses.held_status (device_of engine.now) (desk_of engine.now) held }
 {
@@ -130,8 +128,7 @@ fn channel_status(
 
 /// The status of a slot of a way, by its place among these.
 pub fn slot_status<B: Feeder>(engine: &EngineOf<B>, way: Way, place: usize) -> SlotStatus
-    requires ready { AreReady B.kind B.kept engine.now }
-    requires there { place < slots_of (desk_of engine.now) way }
+    requires { HasSlot B.kind B.kept engine.now way place }
     ensures { result ≡ statuses.slot_status (device_of engine.now) (desk_of engine.now) way place }
 {
     match way {

@@ -1,18 +1,17 @@
 //! After how many frames a client can go on.
 
-ghost use Rattle.std.specs.Prelude.{◌≡◌, ◌<◌, ◌+◌, ◌^◌, true, false};
+ghost use Rattle.std.specs.Prelude.{◌≡◌, ◌<◌, ◌+◌, ◌^◌};
 ghost use Rattle.pcm_desk.specs.Channels.{mixing, play_rate_at};
 ghost use Rattle.pcm_desk.specs.Desk.{held_by, play_at, record_at};
 ghost use Rattle.pcm_oss.specs.Fragments.{AreFragments};
 ghost use Rattle.pcm_desk.specs.declared.here.Here.{Here};
-ghost use Rattle.pcm_desk.specs.Device.{DeviceSeen, here_at, play_slots, record_slots};
+ghost use Rattle.pcm_desk.specs.Device.{DeviceSeen, here_at};
 ghost use Rattle.pcm_rate.specs.Rates.{IsRatio};
-ghost use Rattle.pcm_desk.specs.PlayBooks.{is_play_free, write_turn};
-ghost use Rattle.pcm_desk.specs.RunStates.{is_unheld};
+ghost use Rattle.pcm_desk.specs.PlayBooks.{write_turn};
 ghost use Rattle.pcm_desk.specs.RecordBooks.{read_turn};
 ghost use Rattle.pcm_engine.specs.Engines.{AreReady, desk_of, device_of};
-ghost use Rattle.pcm_status.specs.Asked.{CanAskOf, HoldsIn};
-ghost use Rattle.pcm_status.specs.declared.limits.TheConstants.{FRAMES_MOST};
+ghost use Rattle.pcm_engine.specs.Views.{HasPlayTaken, HasRecordTaken};
+ghost use Rattle.pcm_status.specs.Asked.{CanAskOf, HoldsIn, WaitEnds};
 ghost use Rattle.pcm_status.specs.Statuses.{counts};
 ghost use Rattle.pcm_status.specs.Waits.{IsMetAt, WaitHere, WaitOf, desk_after, goes_on_after};
 
@@ -59,9 +58,7 @@ fn wait_of<B: Feeder>(engine: &EngineOf<B>, fd: u8, held: Held, bytes: u32) -> R
 
 // The least number found between those after which a client can't go on and those after which it can.
 fn first_between<B: Feeder>(engine: &EngineOf<B>, fd: u8, held: Held, bytes: u32) -> u32
-    requires holds { HoldsIn B.kind B.kept engine.now fd held }
-    requires least { goes_on_after (device_of engine.now) (desk_of engine.now) fd bytes 0 ≡ false }
-    requires most { goes_on_after (device_of engine.now) (desk_of engine.now) fd bytes FRAMES_MOST ≡ true }
+    requires { WaitEnds B.kind B.kept engine.now fd held bytes }
     ensures { IsMetAt (device_of engine.now) (desk_of engine.now) fd bytes result }
 {
     let mut before = 0;
@@ -97,9 +94,7 @@ fn goes_on_after<B: Feeder>(
 
 // The book of a slot that plays, after `frames` frames.
 fn play_book_after<B: Feeder>(engine: &EngineOf<B>, slot: usize, frames: u32) -> PlayBook
-    requires ready { AreReady B.kind B.kept engine.now }
-    requires there { slot < play_slots (device_of engine.now) }
-    requires taken { is_play_free (play_at (device_of engine.now) (desk_of engine.now) slot).state ≡ false }
+    requires { HasPlayTaken B.kind B.kept engine.now slot }
     ensures is { result ≡ play_at (device_of engine.now)
         (desk_after (device_of engine.now) (desk_of engine.now) frames) slot }
     ensures fragments { AreFragments result.opening.fragments }
@@ -146,9 +141,7 @@ fn here_after<B: Feeder>(engine: &EngineOf<B>, frames: u32) -> Here
 
 // The book of a slot that records, after `frames` frames.
 fn record_book_after<B: Feeder>(engine: &EngineOf<B>, slot: usize, frames: u32) -> RecordBook
-    requires ready { AreReady B.kind B.kept engine.now }
-    requires there { slot < record_slots (device_of engine.now) }
-    requires taken { is_unheld (record_at (device_of engine.now) (desk_of engine.now) slot).state ≡ false }
+    requires { HasRecordTaken B.kind B.kept engine.now slot }
     ensures { result ≡ record_at (device_of engine.now)
         (desk_after (device_of engine.now) (desk_of engine.now) frames) slot }
 {

@@ -9,22 +9,23 @@ use Rattle.pcm_sequence.proofs.Items.{items-count}
 use Rattle.pcm_format.specs.Formats.{code_of}
 use Rattle.pcm_format.specs.Frames.{Frame, frame_bytes}
 use Rattle.pcm_format.specs.Layouts.{channels_of}
+use Rattle.pcm_format.specs.declared.settings.Settings.{Settings}
+use Rattle.pcm_feeder.specs.declared.kind.Kind.{Kind}
+use Rattle.pcm_desk.specs.declared.device.Device.{Device}
+use Rattle.pcm_desk.specs.declared.here.Here.{Here}
+use Rattle.pcm_desk.specs.declared.map_book.MapBook.{MapBook}
+use Rattle.pcm_desk.specs.declared.opening.Opening.{Opening}
+use Rattle.pcm_desk.specs.declared.play_book.PlayBook.{PlayBook}
+use Rattle.pcm_desk.specs.declared.record_book.RecordBook.{RecordBook}
+use Rattle.pcm_feeder.specs.Filters.{Filters}
+use Rattle.pcm_feeder.specs.Kept.{Kept}
 use Rattle.pcm_desk.specs.declared.limits.TheConstants.{RING_FRAMES}
 use Rattle.pcm_oss.specs.declared.event.TheConstants.{SLOTS}
 use Rattle.std.proofs.lemmas.List.{append-nil, get_or-map, map-set, length-map, length-set, get_or_default, same_lists, take-take}
 use Rattle.std.proofs.lemmas.Bool.{cases_eq, eq-eqb}
-use Rattle.pcm_feeder.specs.declared.kind.Kind.{Kind}
-use Rattle.pcm_feeder.specs.Filters.{Filters}
-use Rattle.pcm_feeder.specs.Kept.{Kept}
-use Rattle.pcm_desk.specs.declared.play_book.PlayBook.{PlayBook}
-use Rattle.pcm_desk.specs.declared.device.Device.{Device}
-use Rattle.pcm_desk.specs.declared.here.Here.{Here}
 use Rattle.pcm_desk.specs.Device.{DeviceSeen, HasRates, mixed_for, mixed_slots, passed_for, seen, unfiltered}
-use Rattle.pcm_desk.specs.declared.record_book.RecordBook.{RecordBook}
-use Rattle.pcm_desk.specs.declared.map_book.MapBook.{MapBook}
-use Rattle.pcm_desk.specs.declared.opening.Opening.{Opening}
 use Rattle.pcm_desk.specs.RunStates.{is_unheld}
-use Rattle.pcm_desk.specs.MapBooks.{taken_of}
+use Rattle.pcm_desk.specs.MapBooks.{map_begun, taken_of}
 use Rattle.pcm_desk.specs.Channels.{capturing, map_passing, mixed_by, play_passing}
 use Rattle.pcm_play.specs.declared.channel.PlayChannelOf.{PlayChannelOf}
 use Rattle.pcm_bus.proofs.Channels.{some_channel}
@@ -32,11 +33,11 @@ use Rattle.pcm_vchan.specs.declared.parent.ParentOf.{ParentOf}
 use Rattle.pcm_record.specs.declared.channel.RecordChannelOf.{RecordChannelOf}
 use Rattle.pcm_record.specs.Channels.{IsRecordReady, RecordMoves}
 use Rattle.pcm_map.specs.declared.channel.MapChannelOf.{MapChannelOf}
-use Rattle.pcm_map.specs.Channels.{IsMapReady, MapMoves, area_of}
+use Rattle.pcm_map.specs.Channels.{IsMapReady, MapBegins, MapMoves, area_of}
 use Rattle.pcm_map.proofs.Moving.{moves-nothing}
 use Rattle.pcm_sound.specs.Areas.{is_recut, silences, silent_area}
 use Rattle.pcm_bus.specs.Slots.{AreLeft, Each, IsPlayDue, PlayMixes, map_books_of, play_books_of}
-use Rattle.pcm_vchan.specs.Slots.{MapKeeps, Passes, record_books_of}
+use Rattle.pcm_vchan.specs.Slots.{ChannelMoves, MapKeeps, Passes, record_books_of}
 use Rattle.pcm_play.specs.Channels.{IsPlayReady, MayEndRun, PlayLeaves, PlayMoves, PlayStands, SettlesBook}
 
 -- the books once one channel changed, whose book changed by `how`
@@ -158,6 +159,25 @@ map-keeps-nothing kind kept filters channel =
     record {
       moves = moves-nothing kind kept filters [] 0 channel;
       area = ap (λ (b : Bool). cond b (silent_area opening) (area_of channel)) (sym stays);
+    }
+
+-- an opening begins in a channel that was free, so its area is silent
+pub map-begins : {B : Type 0} (kind : B → Kind) (kept : B → Kept) (filters : Filters) (settings : Settings) (old new : MapChannelOf B)
+    → is_unheld old.book.state ≡ true
+    → ChannelMoves (λ channel. channel.path) (λ channel. channel.book) (map_begun settings) (MapBegins kind kept filters) old new
+    → ChannelMoves (λ channel. channel.path) (λ channel. channel.book) (map_begun settings) (MapKeeps kind kept filters (λ area. area)) old new
+map-begins kind kept filters settings old new free begins =
+    let recut : Bool = is_recut old.book.opening new.book.opening in
+    let opens : silences old.book new.book ≡ true =
+    ap (λ (free : Bool). (free && not (is_unheld new.book.state)) || recut) free
+    ∙ ap (λ (book : MapBook). not (is_unheld book.state) || recut) begins.book in
+    record {
+      device_same = begins.device_same;
+      book = begins.book;
+      moves = record {
+        moves = begins.moves.moves;
+        area = begins.moves.area ∙ ap (λ (b : Bool). cond b (silent_area new.book.opening) (area_of old)) (sym opens);
+      };
     }
 
 -- their books after an interrupt

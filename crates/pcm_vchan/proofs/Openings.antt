@@ -1,11 +1,12 @@
 -- What an opening in the slots of one way is to their books and their device.
-use Rattle.std.proofs.Common.{◌≡◌, ℕ, ◌+◌, ◌<◌, Bool, cond, List, [], ◌∷◌, length, map, set, get_or, Option, Some, None, All, refl, sym, ap, ◌∙◌, subst, arith}
+use Rattle.std.proofs.Common.{◌≡◌, ℕ, ◌+◌, ◌<◌, Bool, true, cond, List, [], ◌∷◌, length, map, set, get_or, Option, Some, None, All, refl, sym, ap, ◌∙◌, subst, arith}
 use Rattle.std.specs.Prelude.{not, nat_lt, position, IfOk, Result, Ok}
 use Rattle.std.specs.List.{position_or_len, prefix_len}
 use Rattle.std.proofs.lemmas.List.{map-set, length-map}
+use Rattle.std.proofs.lemmas.List.Quantifiers.{position-Some}
 use Rattle.pcm_oss.specs.declared.reply.Errno.{Errno}
-use Rattle.pcm_path.specs.declared.path.PathOf.{PathOf}
 use Rattle.pcm_desk.specs.declared.device.Device.{Device}
+use Rattle.pcm_path.specs.declared.path.PathOf.{PathOf}
 use Rattle.pcm_bus.specs.Slots.{Each}
 use Rattle.pcm_vchan.specs.Openings.{Begins, BeginsIn, books_begun, slot_or_busy}
 use Rattle.pcm_vchan.specs.Slots.{ChannelMoves}
@@ -19,6 +20,20 @@ position-map : {X Y : Type 0} (p : Y → Bool) (f : X → Y) (xs : List X) → p
 position-map p f xs =
     ap (λ (at : ℕ). cond (nat_lt at (length (map f xs))) (Some at) None) (prefix_len-map (λ y. not (p y)) f xs)
     ∙ ap (λ (n : ℕ). cond (nat_lt (position_or_len (λ x. p (f x)) xs) n) (Some (position_or_len (λ x. p (f x)) xs)) None) (length-map xs f)
+
+-- the slot that an opening found was free: so it begins as one does that is free
+pub begins-free : {C : Type 0} (free : C → Bool) (begins keeps : C → C → Type 0) (least : Option ℕ) (old new : List C)
+    → ((before after : C) → free before ≡ true → begins before after → keeps before after)
+    → position free old ≡ least → BeginsIn begins least old new → BeginsIn keeps least old new
+begins-free free begins keeps None old new frees is same = same
+begins-free free begins keeps (Some slot) old new frees is b = record {
+  before = b.before;
+  after = b.after;
+  there = b.there;
+  held = b.held;
+  holds = b.holds;
+  begun = frees b.before b.after (ap free b.held ∙ (position-Some free old slot b.before is).1) b.begun;
+}
 
 -- the channels of a device, whose books tell which are free, once an opening began in one of them if there is one
 pub record Opened {B C Book : Type 0} (path : C → PathOf B) (book : C → Book) (free : Book → Bool) (number : ℕ → ℕ) (begun : Book) (keeps : C → C → Type 0) (device : Device) (old new : List C) (result : Result ℕ Errno) : Type 0 where

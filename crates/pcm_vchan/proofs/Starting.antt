@@ -4,12 +4,12 @@ use Rattle.std.specs.Prelude.{not, ◌&&◌, ◌||◌}
 use Rattle.std.proofs.Math.ListN.{drop_of_length-le}
 use Rattle.std.proofs.lemmas.List.{get_or-map, length-map, same_lists}
 use Rattle.pcm_feeder.specs.declared.kind.Kind.{Kind}
+use Rattle.pcm_desk.specs.declared.here.Here.{Here}
+use Rattle.pcm_desk.specs.declared.play_book.PlayBook.{PlayBook}
 use Rattle.pcm_feeder.specs.Filters.{Filters}
 use Rattle.pcm_feeder.specs.Kept.{Kept}
 use Rattle.pcm_group.specs.Groups.{all_in, change_in}
 use Rattle.pcm_group.proofs.Members.{all_in-drop, get_or-change_in, length-change_in}
-use Rattle.pcm_desk.specs.declared.here.Here.{Here}
-use Rattle.pcm_desk.specs.declared.play_book.PlayBook.{PlayBook}
 use Rattle.pcm_desk.specs.PlayBooks.{play_is_ready}
 use Rattle.pcm_play.specs.declared.channel.PlayChannelOf.{PlayChannelOf}
 use Rattle.pcm_play.proofs.Moving.{moves-nothing}

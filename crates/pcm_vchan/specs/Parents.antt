@@ -2,23 +2,23 @@
 use Rattle.std.specs.Prelude.{◌≡◌, ◌⊎◌, ℕ, ◌+◌, ◌^◌, ◌<◌, ◌≤◌, All, ℤ, List, [], ◌∷◌, length, take, drop, Result}
 use Rattle.pcm_sequence.specs.Fixed.{fixed_items}
 use Rattle.pcm_format.specs.declared.settings.Settings.{Settings}
-use Rattle.pcm_format.specs.Frames.{Frame}
+use Rattle.pcm_feeder.specs.declared.kind.Kind.{Kind}
 use Rattle.pcm_oss.specs.declared.reply.Errno.{Errno}
+use Rattle.pcm_desk.specs.declared.device.Device.{Device}
+use Rattle.pcm_desk.specs.declared.here.Here.{Here}
+use Rattle.pcm_desk.specs.declared.map_book.MapBook.{MapBook}
+use Rattle.pcm_desk.specs.declared.play_book.PlayBook.{PlayBook}
+use Rattle.pcm_desk.specs.declared.record_book.RecordBook.{RecordBook}
+use Rattle.pcm_feeder.specs.Filters.{Filters}
+use Rattle.pcm_feeder.specs.Kept.{Kept}
+use Rattle.pcm_format.specs.Frames.{Frame}
 use Rattle.pcm_feeder.specs.declared.rack.RackOf.{RackOf}
 use Rattle.pcm_feeder.specs.Racks.{HaveKinds, rack_marks}
 use Rattle.pcm_chain.specs.Chains.{boxes_in, marks_in}
-use Rattle.pcm_desk.specs.declared.device.Device.{Device}
 use Rattle.pcm_desk.specs.declared.limits.TheConstants.{MIX_FRAMES, RING_FRAMES}
 use Rattle.pcm_oss.specs.declared.event.TheConstants.{SLOTS}
 use Rattle.pcm_oss.specs.declared.event.Way.TheVariants.{Play, Record, Map}
-use Rattle.pcm_desk.specs.declared.here.Here.{Here}
 use Rattle.pcm_desk.specs.Device.{DeviceSeen, HasRates, mix_frames, mixed_for, mixed_slots, passed_for, seen, unfiltered}
-use Rattle.pcm_desk.specs.declared.play_book.PlayBook.{PlayBook}
-use Rattle.pcm_desk.specs.declared.record_book.RecordBook.{RecordBook}
-use Rattle.pcm_desk.specs.declared.map_book.MapBook.{MapBook}
-use Rattle.pcm_feeder.specs.declared.kind.Kind.{Kind}
-use Rattle.pcm_feeder.specs.Filters.{Filters}
-use Rattle.pcm_feeder.specs.Kept.{Kept}
 use Rattle.pcm_desk.specs.PlayBooks.{play_begun}
 use Rattle.pcm_desk.specs.RecordBooks.{record_begun}
 use Rattle.pcm_desk.specs.MapBooks.{map_begun, taken_of}
@@ -174,6 +174,15 @@ EachMapPlays kind kept filters n old new = Each (MapPlays kind kept filters old.
 -- and of the parent's bus and ring
 abbrev pub BusTurns : {B : Type 0} → (B → Kept) → Filters → ℕ → ParentOf B → ParentOf B → Type 0
 BusTurns kept filters n old new = TurnsBus kept (seen filters old.device) old.handed n old.mixer (play_channels old) (map_channels old) old.bus.chain new.bus.chain old.ring.bytes new.ring.bytes
+
+-- a hand-over to the device changes channels that play and counts, and nothing else
+pub record KeepsRest {B : Type 0} (old new : ParentOf B) : Type 0 where
+  pub device : new.device ≡ old.device
+  pub recorders : new.recorders ≡ old.recorders
+  pub maps : new.maps ≡ old.maps
+  pub mixer : new.mixer ≡ old.mixer
+  pub bus : new.bus ≡ old.bus
+  pub ring : new.ring ≡ old.ring
 
 -- ---- opening a slot
 

@@ -1,12 +1,12 @@
 -- The channels of a device, by slot.
 use Rattle.std.specs.Prelude.{◌≡◌, ℕ, ◌+◌, ◌-◌, ◌^◌, ◌<◌, List, length, map, slice_index_or, All}
 use Rattle.pcm_feeder.specs.declared.kind.Kind.{Kind}
+use Rattle.pcm_oss.specs.declared.event.Way.{Way}
+use Rattle.pcm_desk.specs.declared.device.Device.{Device}
+use Rattle.pcm_desk.specs.declared.record_book.RecordBook.{RecordBook}
 use Rattle.pcm_feeder.specs.Filters.{Filters}
 use Rattle.pcm_feeder.specs.Kept.{Kept}
 use Rattle.pcm_format.specs.Frames.{Frame}
-use Rattle.pcm_oss.specs.declared.event.Way.{Way}
-use Rattle.pcm_desk.specs.declared.record_book.RecordBook.{RecordBook}
-use Rattle.pcm_desk.specs.declared.device.Device.{Device}
 use Rattle.pcm_desk.specs.Channels.{by_way, play_passing}
 use Rattle.pcm_desk.specs.Device.{DeviceSeen}
 use Rattle.pcm_play.specs.declared.channel.PlayChannelOf.{PlayChannelOf}

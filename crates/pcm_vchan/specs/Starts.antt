@@ -1,11 +1,12 @@
 -- What the start of a group leaves of the channels of a device.
-use Rattle.std.specs.Prelude.{ℕ, ◌+◌, ◌^◌, ◌<◌, Bool, ◌==◌, if◌then◌else◌, List, [], length, slice_index_or}
+use Rattle.std.specs.Prelude.{ℕ, ◌+◌, ◌^◌, ◌<◌, ◌≤◌, Bool, ◌==◌, if◌then◌else◌, List, [], length, slice_index_or}
 use Rattle.pcm_feeder.specs.declared.kind.Kind.{Kind}
+use Rattle.pcm_desk.specs.declared.here.Here.{Here}
 use Rattle.pcm_feeder.specs.Filters.{Filters}
 use Rattle.pcm_feeder.specs.Kept.{Kept}
 use Rattle.pcm_feeder.specs.Racks.{HaveKinds}
 use Rattle.pcm_chain.specs.Chains.{boxes_in}
-use Rattle.pcm_desk.specs.declared.here.Here.{Here}
+use Rattle.pcm_oss.specs.declared.event.TheConstants.{SLOTS}
 use Rattle.pcm_desk.specs.Device.{seen}
 use Rattle.pcm_desk.specs.Channels.{play_starting, record_starting}
 use Rattle.pcm_play.specs.declared.channel.PlayChannelOf.{PlayChannelOf}
@@ -13,6 +14,11 @@ use Rattle.pcm_play.specs.Channels.{IsPlayHere, IsPlayServed, PlayMoves}
 use Rattle.pcm_record.specs.declared.channel.RecordChannelOf.{RecordChannelOf}
 use Rattle.pcm_record.specs.Channels.{IsRecordServed, RecordMoves}
 use Rattle.pcm_vchan.specs.Slots.{ChannelMoves}
+
+-- a group, and the channels among which its members that play are
+pub record AreAsked {B : Type 0} (group : ℕ) (channels : List (PlayChannelOf B)) : Type 0 where
+  pub few : length channels ≤ SLOTS
+  pub some : 0 < group
 
 -- a slot is in the group
 abbrev pub is_in : List ℕ → ℕ → ℕ → Bool

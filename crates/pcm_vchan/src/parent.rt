@@ -70,7 +70,7 @@ pub struct ParentOf<B> {
 
 impl<B: Feeder> ParentOf<B> {
     ghost use Rattle.pcm_oss.specs.declared.event.Way.TheVariants.{Play, Record, Map};
-    ghost use Rattle.pcm_vchan.specs.Parents.{map_channels, play_books, play_channels, record_books, record_channels, mixed_in, AreDue, AreMapUnopened, ArePlayUnopened, AreRecordUnopened, AreServed, EachCaptures, EachMapPlays, EachPasses, EachPlayMoves, EachRecordMoves, HasBus, HasLimits, HasRoomFor, KeepsOutput, OpensMap, OpensPlay, OpensRecord, BusTurns, HasRacks, TotalsFit, here_of};
+    ghost use Rattle.pcm_vchan.specs.Parents.{map_channels, play_books, play_channels, record_books, record_channels, mixed_in, AreDue, AreMapUnopened, ArePlayUnopened, AreRecordUnopened, AreServed, EachCaptures, EachMapPlays, EachPasses, EachPlayMoves, EachRecordMoves, HasBus, HasLimits, HasRoomFor, KeepsRest, KeepsOutput, OpensMap, OpensPlay, OpensRecord, BusTurns, HasRacks, TotalsFit, here_of};
     ghost use Rattle.pcm_vchan.specs.Lending.{map_place, LendsChannel, LendsMap, LendsMixer, LendsRecorder};
 
     /// A device that nobody has opened, whose ring is full of silence. Each slot gets a rack: those that play the first ones, mapped ones
@@ -301,14 +301,9 @@ impl<B: Feeder> ParentOf<B> {
         requires mixed { self.old.mixed + mixed < 2 ^ 64 }
         requires passed { passed_for (unfiltered self.old.device) (self.old.handed + n) ≤ℤ pos (2 ^ 62) }
         requires due { All (MayEndRun B.kind) (play_channels self.old) }
-        ensures device { self.new.device ≡ self.old.device }
+        ensures others { KeepsRest self.old self.new }
         ensures slots { length (play_channels self.new) ≡ length (play_channels self.old) }
         ensures settled { Each (PlayLeaves B.kind B.kept (SettlesBook (here_of self.new))) (play_channels self.old) (play_channels self.new) }
-        ensures recorders { self.new.recorders ≡ self.old.recorders }
-        ensures maps { self.new.maps ≡ self.old.maps }
-        ensures mixer { self.new.mixer ≡ self.old.mixer }
-        ensures bus { self.new.bus ≡ self.old.bus }
-        ensures ring { self.new.ring ≡ self.old.ring }
         ensures handed { self.new.handed ≡ self.old.handed + n }
         ensures mixed { self.new.mixed ≡ self.old.mixed + mixed }
     {

@@ -1,12 +1,11 @@
 //! What the start of a group starts: its members that play and those that record, in the order of their slots.
 
-ghost use Rattle.std.specs.Prelude.{◌≡◌, ◌<◌, ◌≤◌, ◌||◌, not, true, length};
-ghost use Rattle.pcm_oss.specs.declared.event.TheConstants.{SLOTS};
+ghost use Rattle.std.specs.Prelude.{◌≡◌, ◌||◌, not, true};
 ghost use Rattle.pcm_group.specs.Groups.{all_in};
 ghost use Rattle.pcm_desk.specs.Here.{IsHere};
 ghost use Rattle.pcm_desk.specs.PlayBooks.{play_is_ready};
 ghost use Rattle.pcm_bus.specs.Slots.{play_books_of};
-ghost use Rattle.pcm_vchan.specs.Starts.{MayRecord, MayStart, Records, Starts};
+ghost use Rattle.pcm_vchan.specs.Starts.{AreAsked, MayRecord, MayStart, Records, Starts};
 
 use crate::walk::Visit;
 use pcm_desk::{Here, PLAY_BIT, RECORD_BIT};
@@ -21,8 +20,7 @@ const START: Request = Request::SetTrigger(PLAY_BIT + RECORD_BIT);
 
 /// Whether each member of a group that plays may start at any moment.
 pub fn are_ready<B: Feeder>(channels: &[PlayChannelOf<B>], groups: &Groups, group: u32) -> bool
-    requires few { length channels.now ≤ SLOTS }
-    requires some { 0 < group }
+    requires { AreAsked group channels.now }
     ensures { result ≡ all_in group play_is_ready groups.now.play (play_books_of channels.now) }
 {
     for slot in 0..channels.len() {
@@ -76,7 +74,7 @@ fn start<B: Feeder>(channel: &mut PlayChannelOf<B>, tables: &Tables, here: Here)
 }
 
 impl<'a, B: Feeder> Visit<RecordChannelOf<B>> for GroupStart<'a> {
-    ghost use Rattle.pcm_vchan.specs.Starts.{MayRecord, Records, is_in};
+    ghost use Rattle.pcm_vchan.specs.Starts.{AreAsked, MayRecord, Records, is_in};
 
     ghost may = { λ start. MayRecord B.kind start.tables.now };
 

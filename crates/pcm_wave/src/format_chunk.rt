@@ -1,11 +1,10 @@
 //! What the "fmt " chunk of a wave states.
 
-ghost use Rattle.std.specs.Prelude.{◌≡◌, ◌+◌, ◌≤◌, IsTrue, length};
-ghost use Rattle.pcm_wave.specs.Chunks.{has_head};
+ghost use Rattle.std.specs.Prelude.{◌≡◌, ◌+◌, ◌≤◌, length};
 ghost use Rattle.pcm_wave.specs.Waves.{checked, format_of_bits, format_told, is_pcm, settings_told};
 
 use crate::WaveFault;
-use crate::chunk::{HEAD_BYTES, has_body, size_at, stands_at, u16_at, u32_at};
+use crate::chunk::{Chunk, stands_at, u16_at, u32_at};
 use pcm_format::{Format, Layout, RATE_LEAST, RATE_MOST, Settings};
 
 // The tag of integer PCM, and that of an extensible format.
@@ -18,15 +17,14 @@ const PCM_NAME: [u8; 16] = [
     1, 0, 0, 0, 0, 0, 0x10, 0, 0x80, 0, 0, 0xAA, 0, 0x38, 0x9B, 0x71,
 ];
 
-// The settings that the "fmt " chunk at a place states.
-pub(crate) fn format_told(bytes: &[u8], place: usize) -> Result<Settings, WaveFault>
-    requires { IsTrue (has_head bytes.now place) }
-    ensures { result ≡ format_told bytes.now place }
+// The settings that a "fmt " chunk states.
+pub(crate) fn format_told(chunk: &Chunk<'_>) -> Result<Settings, WaveFault>
+    ensures { result ≡ format_told chunk.now.bytes.now chunk.now.place }
 {
-    if !has_body(bytes, place) {
+    if !chunk.has_body() {
         return Err(WaveFault::Truncated);
     }
-    settings_told(bytes, place + HEAD_BYTES, size_at(bytes, place)).ok_or(WaveFault::Unsupported)
+    settings_told(chunk.bytes, chunk.body_begin(), chunk.size()).ok_or(WaveFault::Unsupported)
 }
 
 // The settings that a body of "fmt " states.

@@ -1,11 +1,11 @@
 //! Reads a wave: a walk over the chunks of a RIFF file, in their order.
 
-ghost use Rattle.std.specs.Prelude.{◌≡◌, IsTrue};
-ghost use Rattle.pcm_wave.specs.Chunks.{has_head, is_riff};
-ghost use Rattle.pcm_wave.specs.Walks.{wave_given, known_behind, missing, place_behind};
+ghost use Rattle.std.specs.Prelude.{◌≡◌};
+ghost use Rattle.pcm_wave.specs.Chunks.{is_riff};
+ghost use Rattle.pcm_wave.specs.Walks.{wave_given, known_behind, missing};
 ghost use Rattle.pcm_wave.specs.Waves.{body_told, wave_of};
 
-use crate::chunk::{HEAD_BYTES, has_body, has_head, size_at, stands_at};
+use crate::chunk::{Chunk, stands_at};
 use crate::format_chunk::format_told;
 use crate::{Wave, WaveFault};
 use pcm_format::Settings;
@@ -25,12 +25,12 @@ pub fn read_wave(bytes: &[u8]) -> Result<Wave, WaveFault>
     }
     let mut known = None;
     let mut place = FIRST_CHUNK;
-    while has_head(bytes, place) {
-        if stands_at(bytes, place, b"data") {
-            return wave_given(bytes, known, place);
+    while let Some(chunk) = Chunk::at(bytes, place) {
+        if chunk.is(b"data") {
+            return wave_given(&chunk, known);
         }
-        known = known_behind(bytes, known, place)?;
-        place = place_behind(bytes, place);
+        known = known_behind(&chunk, known)?;
+        place = chunk.place_behind();
     }
     Err(missing(known))
 }
@@ -42,42 +42,23 @@ fn is_riff(bytes: &[u8]) -> bool
     stands_at(bytes, 0, b"RIFF") && stands_at(bytes, 8, b"WAVE")
 }
 
-// The settings that are known after the chunk at a place: those of the first "fmt " chunk.
-fn known_behind(
-    bytes: &[u8],
-    known: Option<Settings>,
-    place: usize,
-) -> Result<Option<Settings>, WaveFault>
-    requires { IsTrue (has_head bytes.now place) }
-    ensures { result ≡ known_behind bytes.now known place }
+// The settings that are known after a chunk: those of the first "fmt " chunk.
+fn known_behind(chunk: &Chunk<'_>, known: Option<Settings>) -> Result<Option<Settings>, WaveFault>
+    ensures { result ≡ known_behind chunk.now.bytes.now known chunk.now.place }
 {
-    if known.is_none() && stands_at(bytes, place, b"fmt ") {
-        Ok(Some(format_told(bytes, place)?))
+    if known.is_none() && chunk.is(b"fmt ") {
+        Ok(Some(format_told(chunk)?))
     } else {
         Ok(known)
     }
 }
 
-// The place after a chunk: the end of the bytes, where its body isn't all there.
-fn place_behind(bytes: &[u8], place: usize) -> usize
-    requires { IsTrue (has_head bytes.now place) }
-    ensures { result ≡ place_behind bytes.now place }
-{
-    if has_body(bytes, place) {
-        let size = size_at(bytes, place);
-        place + HEAD_BYTES + size + size % 2
-    } else {
-        bytes.len()
-    }
-}
-
-// What the "data" chunk at a place gives.
-fn wave_given(bytes: &[u8], known: Option<Settings>, place: usize) -> Result<Wave, WaveFault>
-    requires { IsTrue (has_head bytes.now place) }
-    ensures { result ≡ wave_given bytes.now known place }
+// What a "data" chunk gives.
+fn wave_given(chunk: &Chunk<'_>, known: Option<Settings>) -> Result<Wave, WaveFault>
+    ensures { result ≡ wave_given chunk.now.bytes.now known chunk.now.place }
 {
     match known {
-        Some(settings) => body_told(bytes, settings, place),
+        Some(settings) => body_told(chunk, settings),
         None => Err(WaveFault::NoFormat),
     }
 }
@@ -92,17 +73,16 @@ fn missing(known: Option<Settings>) -> WaveFault
     }
 }
 
-// The wave of the "data" chunk at a place, in these settings.
-fn body_told(bytes: &[u8], settings: Settings, place: usize) -> Result<Wave, WaveFault>
-    requires { IsTrue (has_head bytes.now place) }
-    ensures { result ≡ body_told bytes.now settings place }
+// The wave of a "data" chunk, in these settings.
+fn body_told(chunk: &Chunk<'_>, settings: Settings) -> Result<Wave, WaveFault>
+    ensures { result ≡ body_told chunk.now.bytes.now settings chunk.now.place }
 {
-    let size = size_at(bytes, place);
-    if !has_body(bytes, place) && size < OPEN_SIZE {
+    let size = chunk.size();
+    if !chunk.has_body() && size < OPEN_SIZE {
         return Err(WaveFault::Truncated);
     }
-    let at = place + HEAD_BYTES;
-    let len = size.min(bytes.len() - at) as u32;
+    let at = chunk.body_begin();
+    let len = size.min(chunk.bytes.len() - at) as u32;
     Ok(Wave {
         format: settings.format,
         layout: settings.layout,

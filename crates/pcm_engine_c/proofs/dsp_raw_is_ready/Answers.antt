@@ -9,7 +9,8 @@ use Rattle.pcm_engine_c.proofs.Readiness.{ready-moved}
 use Rattle.pcm_engine_c.proofs.dsp_raw_is_ready.Goals as goal
 
 pub ready-ready-requires : goal.ready-ready-requires
-ready-ready-requires c = ready-moved _ _ _ c.in-Some.session.value.of.engine (ap (λ (session : Session). session.of.engine) c.deref.ensures) c.in-Some.ensures.ready
+ready-ready-requires c = ready-moved _ _ _ c.in-Some.session.value.of.engine (ap (λ (session : Session). session.of.engine) c.deref.ensures)
+    c.in-Some.ensures.ready
 
 pub returns-clause-told : goal.returns-clause-told
 returns-clause-told c =
@@ -17,4 +18,5 @@ returns-clause-told c =
     if-held _ c.in-Some.session.value _ c.in-Some.ensures.value
     (to_z-of_z w32 c.ready_number.result fits
     ∙ c.ready_number.ensures
-    ∙ ap ready_number (c.ready-ready.ensures ∙ ap (λ (session : Session). ready_told (device_of session.of.engine) (desk_of session.of.engine) c.args.fd) c.deref.ensures))
+    ∙ ap ready_number (c.ready-ready.ensures
+    ∙ ap (λ (session : Session). ready_told (device_of session.of.engine) (desk_of session.of.engine) c.args.fd) c.deref.ensures))

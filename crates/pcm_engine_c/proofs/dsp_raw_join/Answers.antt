@@ -4,4 +4,7 @@ use Rattle.pcm_engine_c.proofs.Readiness.{ready-moved}
 use Rattle.pcm_engine_c.proofs.dsp_raw_join.Goals as goal
 
 pub join-number-requires : goal.join-number-requires
-join-number-requires c = record { ready = ready-moved _ _ _ c.in-Some.session.value.of.engine (ap (λ (session : Session). session.of.engine) c.deref_mut.ensures.value) c.in-Some.ensures.ready }
+join-number-requires c = record {
+  ready = ready-moved _ _ _ c.in-Some.session.value.of.engine
+      (ap (λ (session : Session). session.of.engine) c.deref_mut.ensures.value) c.in-Some.ensures.ready;
+}

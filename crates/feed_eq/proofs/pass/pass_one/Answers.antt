@@ -6,8 +6,11 @@ use Rattle.feed_eq.proofs.Passing.{GoesOn, goes-on, next-input, put-frame, set-h
 use Rattle.feed_eq.proofs.pass.pass_one.Goals as goal
 
 -- the next output, and what the channel keeps then
-next : (c : goal.After-after-lane) (x y : List ℤ) → IsPassed c.args.section c.args.channels (length c.args.samples.now / c.args.channels) x y → IsLaneAt c.args.section c.args.channels x y 0 c.args.channel c.args.lane
-    → HoldsChannels c.args.channels c.args.channel (c.args.channel + 1) x c.args.samples.now → GoesOn c.args.section c.args.channels x y c.loop-k.k c.args.channel c.next-made.result c.after-lane.result
+next : (c : goal.After-after-lane) (x y : List ℤ)
+    → IsPassed c.args.section c.args.channels (length c.args.samples.now / c.args.channels) x y
+    → IsLaneAt c.args.section c.args.channels x y 0 c.args.channel c.args.lane
+    → HoldsChannels c.args.channels c.args.channel (c.args.channel + 1) x c.args.samples.now
+    → GoesOn c.args.section c.args.channels x y c.loop-k.k c.args.channel c.next-made.result c.after-lane.result
 next c x y passed begin holds =
     let n = c.args.channels in
     let channel = c.args.channel in
@@ -15,9 +18,11 @@ next c x y passed begin holds =
     let sample = get_or c.loop-k.samples (k * n + channel) (pos 0) in
     let fits : FitsSigned w32 sample = search rules in
     let made_fits : FitsSigned w32 c.next-made.result = search rules in
-    goes-on c.args.section n (length c.args.samples.now / n) k channel x y c.loop-k.lane c.after-lane.result sample c.next-made.result passed c.loop-k-test.true c.requires.there
+    goes-on c.args.section n (length c.args.samples.now / n) k channel x y c.loop-k.lane c.after-lane.result sample c.next-made.result
+    passed c.loop-k-test.true (omega (arith, c.requires.there))
     (c.loop-k.invariant.lane x y passed begin holds)
-    (next-input n channel (channel + 1) k channel x y c.args.samples.now c.loop-k.samples (omega (arith, c.requires.there)) holds (c.loop-k.invariant.puts x y passed begin holds) c.loop-k-test.true (omega arith) (omega arith))
+    (next-input n channel (channel + 1) k channel x y c.args.samples.now c.loop-k.samples (omega (arith, c.requires.there)) holds
+    (c.loop-k.invariant.puts x y passed begin holds) c.loop-k-test.true (omega arith) (omega arith))
     (rw (to_z-of_z w32 sample fits) at c.next-made.ensures)
     (rw (to_z-of_z w32 sample fits, to_z-of_z w32 c.next-made.result made_fits) at c.after-lane.ensures.next)
     (rw (to_z-of_z w32 sample fits, to_z-of_z w32 c.next-made.result made_fits) at c.after-lane.ensures.later)
@@ -35,11 +40,14 @@ loop-k-preserved c =
     rw (to_z-of_z w32 made fits) (record {
       lane = λ x y passed begin holds. (next c x y passed begin holds).lane_is;
       puts = λ x y passed begin holds.
-          put-frame n channel (channel + 1) k y old samples (set samples (k * n + channel) made) (omega (arith, c.requires.there)) (c.loop-k.invariant.puts x y passed begin holds)
+          put-frame n channel (channel + 1) k y old samples (set samples (k * n + channel) made) (omega (arith, c.requires.there))
+          (c.loop-k.invariant.puts x y passed begin holds)
           (λ j least most.
           let same : j ≡ channel = omega (arith, least, most) in
-          rw same (set-here n k channel (k * n + channel) samples made refl there c.requires.there ∙ (next c x y passed begin holds).made))
-          (λ i j within away. set-other n i j k channel (k * n + channel) samples made refl within c.requires.there (elim away [
+          rw same (set-here n k channel (k * n + channel) samples made refl there (omega (arith, c.requires.there))
+          ∙ (next c x y passed begin holds).made))
+          (λ i j within away. set-other n i j k channel (k * n + channel) samples made refl within (omega (arith, c.requires.there))
+          (elim away [
             | inl row ↦ inl row
             | inr column ↦ inr (λ same. elim column [
               | inl before ↦ absurd (omega (arith, before, same))
@@ -51,4 +59,5 @@ loop-k-preserved c =
 pub returns-clause-puts : goal.returns-clause-puts
 returns-clause-puts c = λ x y passed begin holds.
     let all : c.loop-k.k ≡ length c.args.samples.now / c.args.channels = omega (arith, c.loop-k-test.false, c.loop-k.auto.k-end) in
-    subst (λ n. PutsFrames c.args.channels c.args.channel (c.args.channel + 1) n y c.args.samples.now c.loop-k.samples) all (c.loop-k.invariant.puts x y passed begin holds)
+    subst (λ n. PutsFrames c.args.channels c.args.channel (c.args.channel + 1) n y c.args.samples.now c.loop-k.samples) all
+    (c.loop-k.invariant.puts x y passed begin holds)

@@ -11,7 +11,13 @@ pub loop-at-preserved : goal.loop-at-preserved
 loop-at-preserved c =
     let l = c.loop-at in
     let long : length c.row.result ≡ 8 = search rules in
-    let room : l.at < length l.rows = omega (arith, c.loop-at-test.true, c.channels-at-end.ensures, channels_of-most c.args.to, l.invariant.0) in (
+    let room : l.at < length l.rows = omega (
+      arith,
+      c.loop-at-test.true,
+      c.channels-at-end.ensures,
+      channels_of-most c.args.to,
+      l.invariant.0,
+    ) in (
       length-set l.rows l.at c.row.result ∙ l.invariant.0,
       All-set (λ row. length row ≡ 8) l.rows l.at c.row.result long l.invariant.1,
       All-set AreAtMostOne l.rows l.at c.row.result c.row.ensures.limits l.invariant.2,

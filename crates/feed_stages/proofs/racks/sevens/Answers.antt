@@ -11,6 +11,7 @@ loop-preserved c =
     let seven = c.in_ok-seven_stages.field-0 in
     let items = c.in_ok-push.ensures.items in
     record {
-      kinds = All-same HaveTheirKinds c.push.new.self.items (before ++ seven ∷ []) items (All-push HaveTheirKinds before seven c.loop.invariant.kinds c.in_ok-seven_stages.ensures.kinds);
+      kinds = All-same HaveTheirKinds c.push.new.self.items (before ++ seven ∷ []) items
+          (All-push HaveTheirKinds before seven c.loop.invariant.kinds c.in_ok-seven_stages.ensures.kinds);
       count = ap (λ (list : List (SevenOf _)). length list) items ∙ length_push before seven ∙ ap (λ n. n + 1) c.loop.invariant.count;
     }

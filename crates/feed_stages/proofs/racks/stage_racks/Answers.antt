@@ -10,4 +10,5 @@ pub returns-clause-fault : goal.returns-clause-fault
 returns-clause-fault c =
     let boxes = c.in_ok-sevens.sevens.items in
     let made = c.in_ok-sevens.ensures in
-    IfErr-weaker c.of_boxes.result (IsRackFault kind_by_case boxes) (λ fault. fault ≡ Memory) (λ fault found. only-memory kind_by_case boxes fault made.kinds made.count found) c.of_boxes.ensures.fault
+    IfErr-weaker c.of_boxes.result (IsRackFault kind_by_case boxes) (λ fault. fault ≡ Memory)
+    (λ fault found. only-memory kind_by_case boxes fault made.kinds made.count found) c.of_boxes.ensures.fault

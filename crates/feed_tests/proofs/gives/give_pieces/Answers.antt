@@ -14,7 +14,11 @@ loop-at-preserved g c =
     let n = c.from-count.result in
     let part = take (at + n - at) (drop at c.loop-at.out) in
     let count : length part ≡ n =
-    omega (arith, length-take-le (at + n - at) (drop at c.loop-at.out) (omega (arith, length-drop at c.loop-at.out, c.loop-at.auto.out, c.requires.room, c.if-given-count-gt4.false))) in
+    omega (
+      arith,
+      length-take-le (at + n - at) (drop at c.loop-at.out)
+          (omega (arith, length-drop at c.loop-at.out, c.loop-at.auto.out, c.requires.room, c.if-given-count-gt4.false)),
+    ) in
     record {
       given = omega arith;
       eaten = omega arith;

@@ -14,8 +14,10 @@ pub give-requires-clause-can : goal.give-requires-clause-can
 give-requires-clause-can g c =
     let plan = plan_in c.args.chain.now in
     let gives = c.requires.gives in
-    let frames = length-frames_of (channels_of plan.source) c.args.input.now ∙ by-one (length c.args.input.now) (channels_of plan.source) (ap channels_of c.requires.source) in
-    let count : filling_frames plan c.args.out.now ≡ length c.args.out.now = by-one (length c.args.out.now) (channels_of plan.target) (ap channels_of c.requires.target) in
+    let frames = length-frames_of (channels_of plan.source) c.args.input.now
+    ∙ by-one (length c.args.input.now) (channels_of plan.source) (ap channels_of c.requires.source) in
+    let count : filling_frames plan c.args.out.now ≡ length c.args.out.now = by-one (length c.args.out.now) (channels_of plan.target)
+    (ap channels_of c.requires.target) in
     let before = rw c.plan.ensures at c.need-before.ensures in
     let after = rw c.plan-2.ensures at c.need-after.ensures in
     record {
@@ -30,11 +32,14 @@ returns-then-enough-clause-gives g c enough =
     let plan = plan_in c.args.chain.now in
     let gives = c.requires.gives in
     let input = pushed_frames plan c.args.input.now in
-    let frames = length-frames_of (channels_of plan.source) c.args.input.now ∙ by-one (length c.args.input.now) (channels_of plan.source) (ap channels_of c.requires.source) in
-    let count : filling_frames plan c.args.out.now ≡ length c.args.out.now = by-one (length c.args.out.now) (channels_of plan.target) (ap channels_of c.requires.target) in
+    let frames = length-frames_of (channels_of plan.source) c.args.input.now
+    ∙ by-one (length c.args.input.now) (channels_of plan.source) (ap channels_of c.requires.source) in
+    let count : filling_frames plan c.args.out.now ≡ length c.args.out.now = by-one (length c.args.out.now) (channels_of plan.target)
+    (ap channels_of c.requires.target) in
     let before = rw c.plan.ensures at c.need-before.ensures in
     let after = rw c.plan-2.ensures at c.need-after.ensures in
-    let just : AreJustEnough plan c.args.input.now c.args.given (filling_frames plan c.args.out.now) = rw count (omega (arith, frames, c.saturating_sub.ensures, before, after, c.if-enough.true)) in
+    let just : AreJustEnough plan c.args.input.now c.args.given (filling_frames plan c.args.out.now) = rw count
+    (omega (arith, frames, c.saturating_sub.ensures, before, after, c.if-enough.true)) in
     let next = c.give.ensures.gives gives.0 c.args.given gives.1 just in (
       gives.0 ++ input,
       subst (λ n. GivesExactly g.B.Feeder.kept c.args.tables.now c.give.new.self (gives.0 ++ input) (c.args.given + n)) count next.exactly,

@@ -18,6 +18,8 @@ loop-k-preserved c =
     let next : k + 1 ≤ c.args.frames = omega (arith, c.loop-k-test.true) in
     let fits : (k + 1) * n ≤ length input = omega (arith, c.requires.source, mul-le-mul_right n next) in
     let is = c.put_frame.ensures ∙ ap (λ w. at_gains gains (take w (drop (k * n) input))) width in
-    let long = ap length is ∙ length-at_gains gains (frame_in n input k) (length-take-le n (drop (k * n) input) (omega (arith, length-drop (k * n) input))) in
+    let long = ap length is ∙ length-at_gains gains (frame_in n input k)
+    (length-take-le n (drop (k * n) input) (omega (arith, length-drop (k * n) input))) in
     ap (λ w. put_mid (k * n) w c.loop-k.output c.put_frame.new.output) width
-    ∙ put-more (at_gains gains) n n k input c.args.output.now c.loop-k.output c.put_frame.new.output (length-at_gains gains) (frames-there n (length input) (k + 1) c.requires.some fits) c.loop-k.invariant is long
+    ∙ put-more (at_gains gains) n n k input c.args.output.now c.loop-k.output c.put_frame.new.output (length-at_gains gains)
+    (frames-there n (length input) (k + 1) c.requires.some fits) c.loop-k.invariant is long

@@ -60,7 +60,7 @@ give-requires-clause-can g c =
 pub returns-clause-planned : goal.returns-clause-planned
 returns-clause-planned g c = record {
   limits = c.requires.planned.limits;
-  plan_is = c.give.ensures.plan ∙ c.requires.planned.plan_is;
+  plan_is = c.give.ensures.stays.plan ∙ c.requires.planned.plan_is;
 }
 
 pub returns-clause-makes : goal.returns-clause-makes

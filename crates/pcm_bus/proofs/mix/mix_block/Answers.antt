@@ -26,7 +26,8 @@ mix_each-requires-clause-block g c =
     record {
       frames_whole = c.requires.part;
       sum_whole = c.fill.ensures.len ∙ c.requires.sum;
-      fits = subst (All P) (sym (c.fill.ensures.after (λ y same. same))) (All-replicate P (length c.args.sum.now) (pos 0) (silence-fits (bits_of c.args.device.mix.format)));
+      fits = subst (All P) (sym (c.fill.ensures.after (λ y same. same)))
+          (All-replicate P (length c.args.sum.now) (pos 0) (silence-fits (bits_of c.args.device.mix.format)));
     }
 
 pub apply_gain-requires-clause-whole : goal.apply_gain-requires-clause-whole
@@ -50,7 +51,9 @@ returns-then-n-gt0-clause-block g c = λ sources stand.
 pub returns-then-n-gt0-clause-fits : goal.returns-then-n-gt0-clause-fits
 returns-then-n-gt0-clause-fits g c =
     let bits = bits_of c.args.device.mix.format in
-    subst (All (FitsBits bits)) (sym c.apply_gain.ensures) (faded-fits bits c.args.device.mix.layout c.master.result c.mix_each-then-n-gt0.new.sum c.master.ensures.limits c.mix_each-then-n-gt0.ensures.block.fits)
+    subst (All (FitsBits bits)) (sym c.apply_gain.ensures)
+    (faded-fits bits c.args.device.mix.layout c.master.result c.mix_each-then-n-gt0.new.sum c.master.ensures.limits
+    c.mix_each-then-n-gt0.ensures.block.fits)
 
 pub returns-else-n-gt0-clause-mixed : goal.returns-else-n-gt0-clause-mixed
 returns-else-n-gt0-clause-mixed g c =
@@ -77,7 +80,8 @@ returns-else-n-gt0-clause-taken g c =
             own = (c.requires.due.mapped slot other there).own;
             plays = record {
               book = subst (λ n. channel.book ≡ map_mixing (seen c.args.tables.now c.args.device) n channel.book) none refl;
-              moves = map-moves-nothing g.B.Feeder.kind g.B.Feeder.kept c.args.tables.now (area_taken (seen c.args.tables.now channel.path.device) c.args.n channel.book (area_of channel)) c.args.n channel;
+              moves = map-moves-nothing g.B.Feeder.kind g.B.Feeder.kept c.args.tables.now
+                  (area_taken (seen c.args.tables.now channel.path.device) c.args.n channel.book (area_of channel)) c.args.n channel;
               area = refl;
             };
           });

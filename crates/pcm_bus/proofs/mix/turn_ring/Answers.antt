@@ -13,15 +13,18 @@ taken : (took want there room size : ℕ) → took ≡ min want there → want �
 taken took want there room size is all full within = omega arith
 
 -- and as many come in
-put-back : (put block free left there room size : ℕ) → put ≡ min block free → block ≡ size → free ≡ room - left → left ≡ there - size → there ≡ room → size ≤ room → put ≡ size
+put-back : (put block free left there room size : ℕ) → put ≡ min block free → block ≡ size → free ≡ room - left → left ≡ there - size
+    → there ≡ room → size ≤ room → put ≡ size
 put-back put block free left there room size is whole leaves after full within = omega arith
 
 pub spell_frames-requires-clause-lengths : goal.spell_frames-requires-clause-lengths
 spell_frames-requires-clause-lengths c =
     let settings = c.args.settings in
     let width : c.args.n * c.frame_bytes.result ≡ c.args.n * frame_bytes settings = ap (λ k. c.args.n * k) c.frame_bytes.ensures in
-    let whole : length (take (c.args.n * c.frame_bytes.result) c.args.bytes.now) ≡ c.args.n * frame_bytes settings = omega (arith, length-take (c.args.n * c.frame_bytes.result) c.args.bytes.now, width, c.requires.bytes) in
-    whole ∙ sym (mul_assoc c.args.n (channels_of settings.layout) (bytes_of settings.format)) ∙ sym (ap (λ k. k * bytes_of settings.format) c.requires.block)
+    let whole : length (take (c.args.n * c.frame_bytes.result) c.args.bytes.now) ≡ c.args.n * frame_bytes
+    settings = omega (arith, length-take (c.args.n * c.frame_bytes.result) c.args.bytes.now, width, c.requires.bytes) in
+    whole ∙ sym (mul_assoc c.args.n (channels_of settings.layout) (bytes_of settings.format))
+    ∙ sym (ap (λ k. k * bytes_of settings.format) c.requires.block)
 
 pub returns-clause-size : goal.returns-clause-size
 returns-clause-size c = ap (λ (ring : Ring). ring.size) c.put.ensures.kept ∙ ap (λ (ring : Ring). ring.size) c.take.ensures.left
@@ -30,7 +33,8 @@ pub returns-clause-out : goal.returns-clause-out
 returns-clause-out c =
     let old = c.args.ring.now in
     let size : ℕ = c.args.n * frame_bytes c.args.settings in
-    let took = taken c.take.result (length c.args.out.now) (length old.bytes) old.size size c.take.ensures.count c.requires.out c.requires.full c.requires.within in
+    let took = taken c.take.result (length c.args.out.now) (length old.bytes) old.size size c.take.ensures.count c.requires.out
+    c.requires.full c.requires.within in
     c.take.ensures.moved ∙ ap (λ k. take k old.bytes ++ drop k c.args.out.now) took
     ∙ ap (λ (rest : List ℕ). take size old.bytes ++ rest) (drop_all size c.args.out.now (omega (arith, c.requires.out)))
     ∙ append-nil (take size old.bytes)
@@ -40,22 +44,34 @@ returns-clause-ring c =
     let old = c.args.ring.now in
     let size : ℕ = c.args.n * frame_bytes c.args.settings in
     let block : List ℕ = c.spell_frames.new.out in
-    let took = taken c.take.result (length c.args.out.now) (length old.bytes) old.size size c.take.ensures.count c.requires.out c.requires.full c.requires.within in
-    let left : length c.take.new.self.bytes ≡ length old.bytes - size = ap (λ (ring : Ring). length ring.bytes) c.take.ensures.left ∙ ap (λ k. length (drop k old.bytes)) took ∙ length-drop size old.bytes in
-    let free : c.take.new.self.size - length c.take.new.self.bytes ≡ old.size - length c.take.new.self.bytes = ap (λ (ring : Ring). ring.size - length c.take.new.self.bytes) c.take.ensures.left in
+    let took = taken c.take.result (length c.args.out.now) (length old.bytes) old.size size c.take.ensures.count c.requires.out
+    c.requires.full c.requires.within in
+    let left : length c.take.new.self.bytes ≡ length old.bytes - size = ap (λ (ring : Ring). length ring.bytes) c.take.ensures.left
+    ∙ ap (λ k. length (drop k old.bytes)) took ∙ length-drop size old.bytes in
+    let free : c.take.new.self.size - length c.take.new.self.bytes ≡ old.size - length c.take.new.self.bytes = ap
+    (λ (ring : Ring). ring.size - length c.take.new.self.bytes) c.take.ensures.left in
     let width : c.args.n * c.frame_bytes.result ≡ size = ap (λ k. c.args.n * k) c.frame_bytes.ensures in
-    let whole : length block ≡ size = omega (arith, c.spell_frames.auto.out, length-take (c.args.n * c.frame_bytes.result) c.args.bytes.now, width, c.requires.bytes) in
-    let put = put-back c.put.result (length block) (c.take.new.self.size - length c.take.new.self.bytes) (length c.take.new.self.bytes) (length old.bytes) old.size size c.put.ensures.count whole free left c.requires.full c.requires.within in
+    let whole : length block ≡ size = omega (
+      arith,
+      c.spell_frames.auto.out,
+      length-take (c.args.n * c.frame_bytes.result) c.args.bytes.now,
+      width,
+      c.requires.bytes,
+    ) in
+    let put = put-back c.put.result (length block) (c.take.new.self.size - length c.take.new.self.bytes) (length c.take.new.self.bytes)
+    (length old.bytes) old.size size c.put.ensures.count whole free left c.requires.full c.requires.within in
     ap (λ (ring : Ring). ring.bytes) c.put.ensures.kept
     ∙ ap (λ (ring : Ring). ring.bytes ++ take c.put.result block) c.take.ensures.left
     ∙ ap (λ k. drop k old.bytes ++ take c.put.result block) took
-    ∙ ap (λ (bytes : List ℕ). drop size old.bytes ++ bytes) (take_all c.put.result block (omega (arith, put, whole)) ∙ c.spell_frames.ensures)
+    ∙ ap (λ (bytes : List ℕ). drop size old.bytes ++ bytes)
+    (take_all c.put.result block (omega (arith, put, whole)) ∙ c.spell_frames.ensures)
 
 pub returns-clause-full : goal.returns-clause-full
 returns-clause-full c =
     let size : ℕ = c.args.n * frame_bytes c.args.settings in
     let width : c.args.n * c.frame_bytes.result ≡ size = ap (λ k. c.args.n * k) c.frame_bytes.ensures in
-    let block : length (block_bytes c.args.settings c.args.block.now) ≡ size = sym (ap length c.spell_frames.ensures) ∙ omega (arith, c.spell_frames.auto.out, length-take (c.args.n * c.frame_bytes.result) c.args.bytes.now, width, c.requires.bytes) in
+    let block : length (block_bytes c.args.settings c.args.block.now) ≡ size = sym (ap length c.spell_frames.ensures)
+    ∙ omega (arith, c.spell_frames.auto.out, length-take (c.args.n * c.frame_bytes.result) c.args.bytes.now, width, c.requires.bytes) in
     ap length (returns-clause-ring c)
     ∙ omega (
       arith,

@@ -19,4 +19,5 @@ pub returns-clause-fresh : goal.returns-clause-fresh
 returns-clause-fresh g c =
     let stages = c.args.stages.now in
     let P : Spec → Type 0 = λ spec. kept_in g.B.Feeder.kept c.loop-spec.boxes spec ≡ fresh spec in
-    All-same P stages (take c.loop-spec.spec-index stages) (sym (take_all c.loop-spec.spec-index stages c.loop-spec-test.false)) c.loop-spec.invariant.fresh
+    All-same P stages (take c.loop-spec.spec-index stages) (sym (take_all c.loop-spec.spec-index stages c.loop-spec-test.false))
+    c.loop-spec.invariant.fresh

@@ -8,4 +8,5 @@ pub loop-sample-preserved : goal.loop-sample-preserved
 loop-sample-preserved c =
     let samples = c.args.samples.now in
     let small : FitsSigned w32 (get_or samples c.loop-sample.sample-index (pos 0)) = search rules in
-    All-more (FitsBits 32) samples c.loop-sample.sample-index (pos 0) c.loop-sample-test.true c.loop-sample.invariant (FitsBits-from_signed (get_or samples c.loop-sample.sample-index (pos 0)) small)
+    All-more (FitsBits 32) samples c.loop-sample.sample-index (pos 0) c.loop-sample-test.true c.loop-sample.invariant
+    (FitsBits-from_signed (get_or samples c.loop-sample.sample-index (pos 0)) small)

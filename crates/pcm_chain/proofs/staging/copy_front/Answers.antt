@@ -22,5 +22,7 @@ loop-i-preserved c =
           ∙ ap (λ z. take l.i l.frames ++ z ∷ []) copied
           ∙ ap (λ list. list ++ v ∷ []) l.invariant.loaded
           ∙ sym whole;
-      fits = subst (All (FitsBits 32)) (sym whole) (All-append (FitsBits 32) (take l.i all) (v ∷ []) l.invariant.fits (All-cons (FitsBits 32) v [] (FitsBits-from_signed v small) (All-nil (FitsBits 32))));
+      fits = subst (All (FitsBits 32)) (sym whole)
+          (All-append (FitsBits 32) (take l.i all) (v ∷ []) l.invariant.fits
+          (All-cons (FitsBits 32) v [] (FitsBits-from_signed v small) (All-nil (FitsBits 32))));
     }

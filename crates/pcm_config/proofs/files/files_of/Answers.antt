@@ -1,5 +1,6 @@
+use Rattle.std.proofs.Common.{rules}
 use Rattle.pcm_config.proofs.Order.{none-in-order}
 use Rattle.pcm_config.proofs.files.files_of.Goals as goal
 
-pub returns-in-None-clause-order : goal.returns-in-None-clause-order
-returns-in-None-clause-order c = rw (c.new-in-None.ensures, c.new.ensures.items) none-in-order
+pub returns-in-None : goal.returns-in-None
+returns-in-None c = record { read = search rules; order = rw (c.new-in-None.ensures, c.new.ensures.items) none-in-order }

@@ -10,5 +10,6 @@ use Rattle.pcm_config.proofs.lists.has_each.Goals as goal
 pub returns : goal.returns
 returns c =
     let table = members_seen c.args.table in
-    let ran = all_from_yields_List (λ key. is_some (get_member key.now table)) _ _ c.all.result c.all.ensures.ran (YieldsList-from_slice c.args.keys.now cc) (λ x b q k. search (rules, tests)) in
+    let ran = all_from_yields_List (λ key. is_some (get_member key.now table)) _ _ c.all.result c.all.ensures.ran
+    (YieldsList-from_slice c.args.keys.now cc) (λ x b q k. search (rules, tests)) in
     ran ∙ sym (list_all-map (λ key. is_some (get_member key table)) (λ key. key.now) c.args.keys.now)

@@ -8,5 +8,6 @@ use Rattle.pcm_config.proofs.lists.have_names.Goals as goal
 pub returns : goal.returns
 returns c =
     let keys = keys_seen c.args.keys.now in
-    let ran = all_from_yields_List (λ key. is_one_of keys (string_bytes key)) _ _ c.all.result c.all.ensures.ran (YieldsList-from_rest _ c.keys.ensures.rest) (λ x b q k. search (rules, tests)) in
+    let ran = all_from_yields_List (λ key. is_one_of keys (string_bytes key)) _ _ c.all.result c.all.ensures.ran
+    (YieldsList-from_rest _ c.keys.ensures.rest) (λ x b q k. search (rules, tests)) in
     ran ∙ keys-seen (is_one_of keys) c.args.table.now.entries

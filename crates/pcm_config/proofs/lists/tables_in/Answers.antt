@@ -7,7 +7,8 @@ use Rattle.pcm_config.proofs.lists.tables_in.Goals.{in_default-via-in-Some+else-
 pub returns-in-Some : goal.returns-in-Some
 returns-in-Some c =
     let found = sym c.as_array.ensures ∙ ap (option_map (λ v. array_view v.now)) c.in-Some.is in
-    rw c.as_slice.ensures.value (all-tables (view c.args.value.now) c.in-Some.values.now.items found (rw (← c.deref.ensures.value) c.if-are_tables.ensures))
+    rw c.as_slice.ensures.value (all-tables (view c.args.value.now) c.in-Some.values.now.items found
+    (rw (← c.deref.ensures.value) c.if-are_tables.ensures))
 
 pub returns-in_default : goal.returns-in_default
 returns-in_default c =
@@ -15,5 +16,6 @@ returns-in_default c =
       | in_default-via-in-Some+else-are_tables w ↦
           let found = sym c.as_array.ensures ∙ ap (option_map (λ v. array_view v.now)) w.in-Some.is in
           some-other (view c.args.value.now) w.in-Some.values.now.items found (rw (← w.deref.ensures.value) w.if-are_tables.ensures)
-      | in_default-via-in_default w ↦ sym (array-none _ (view c.args.value.now) (sym c.as_array.ensures ∙ ap (option_map (λ v. array_view v.now)) w.in_default.is))
+      | in_default-via-in_default w ↦ sym (array-none _ (view c.args.value.now)
+          (sym c.as_array.ensures ∙ ap (option_map (λ v. array_view v.now)) w.in_default.is))
     ]

@@ -10,4 +10,5 @@ use Rattle.pcm_config.proofs.tables.sections_in.Goals as goal
 pub returns-clause-limits : goal.returns-clause-limits
 returns-clause-limits c =
     let tables = tables_seen c.args.tables.now in
-    answer-kept (λ list. list.items) c.each_of.result (sections_in tables) (AreFew SECTIONS IsSection) (rw (← c.in_ok-few.ensures) c.each_of.ensures) (sections-kept tables)
+    answer-kept (λ list. list.items) c.each_of.result (sections_in tables) (AreFew SECTIONS IsSection)
+    (rw (← c.in_ok-few.ensures) c.each_of.ensures) (sections-kept tables)

@@ -47,11 +47,15 @@ returns g c =
     let whole = converted_body (source_in old) (target_in old) c.args.body.now in
     let only = appends-only _ _ _ head.only body.only in
     let appended = appends-on _ _ _ c.args.head.now whole head.only head.ok body.ok in
-    let size : c.args.frames * c.frame_bytes.result ≡ converted_frames (source_in old) (target_in old) c.args.body.now * frame_bytes (target_in old) =
-    ap (λ (n : ℕ). n * c.frame_bytes.result) c.requires.begins.count
-    ∙ ap (λ (n : ℕ). converted_frames (source_in old) (target_in old) c.args.body.now * n) (c.frame_bytes.ensures ∙ ap (λ (s : Settings). frame_bytes s) c.target-target.ensures) in
+    let size : c.args.frames * c.frame_bytes.result ≡ converted_frames (source_in old) (target_in old) c.args.body.now * frame_bytes
+    (target_in old) =
+    ap (λ (n : ℕ). n * c.frame_bytes.result) c.requires.count
+    ∙ ap (λ (n : ℕ). converted_frames (source_in old) (target_in old) c.args.body.now * n)
+    (c.frame_bytes.ensures ∙ ap (λ (s : Settings). frame_bytes s) c.target-target.ensures) in
     record {
       only = appends-only _ _ _ only c.append_padding.ensures.only;
-      ok = padded c.append_padding.result _ _ _ c.args.head.now whole _ _ only appended (ap (λ (n : ℕ). replicate (padding n) 0) size) c.append_padding.ensures.ok;
-      err = padding-fails c.append_padding.result _ _ _ c.args.head.now whole _ _ only appended (ap (λ (n : ℕ). replicate (padding n) 0) size) c.append_padding.ensures.err;
+      ok = padded c.append_padding.result _ _ _ c.args.head.now whole _ _ only appended (ap (λ (n : ℕ). replicate (padding n) 0) size)
+          c.append_padding.ensures.ok;
+      err = padding-fails c.append_padding.result _ _ _ c.args.head.now whole _ _ only appended
+          (ap (λ (n : ℕ). replicate (padding n) 0) size) c.append_padding.ensures.err;
     }

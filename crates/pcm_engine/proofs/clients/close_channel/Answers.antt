@@ -1,15 +1,10 @@
 use Rattle.std.proofs.Common.{rules, refl, ◌+◌, ◌^◌, ◌<◌, [], length, Ok, sym, ap, ◌∙◌, subst, arith}
 use Rattle.pcm_sequence.proofs.Items.{items-count}
-use Rattle.pcm_desk.specs.declared.device.Device.{Device}
+use Rattle.pcm_engine.specs.Types.{Device, Here, MapBook, PlayBook, RecordBook, Way}
 use Rattle.pcm_desk.specs.Device.{seen}
-use Rattle.pcm_desk.specs.declared.map_book.MapBook.{MapBook}
 use Rattle.pcm_desk.specs.MapBooks.{map_closed}
 use Rattle.pcm_desk.specs.RecordBooks.{closed}
-use Rattle.pcm_desk.specs.declared.play_book.PlayBook.{PlayBook}
-use Rattle.pcm_desk.specs.declared.record_book.RecordBook.{RecordBook}
 use Rattle.pcm_oss.specs.declared.reply.Answer.TheVariants.{Done}
-use Rattle.pcm_oss.specs.declared.event.Way.{Way}
-use Rattle.pcm_desk.specs.declared.here.Here.{Here}
 use Rattle.pcm_desk.specs.Channels.{closing}
 use Rattle.pcm_desk.specs.Desk.{Desk, desk_here}
 use Rattle.pcm_play.specs.declared.channel.PlayChannelOf.{PlayChannelOf}
@@ -31,8 +26,10 @@ close-requires g c =
     let is = sym c.play.ensures.value in
     let below = c.requires.there.play c.in-Play.is in
     let there : slot < length (play_channels parent) = omega (arith, below, items-count parent.channels) in
-    let ready = subst (IsPlayReady g.B.Feeder.kind g.B.Feeder.kept c.requires.served.filters) is (c.requires.served.served.ready slot lent there) in
-    let counted = subst (λ (channel : PlayChannelOf _). channel.book.done + channel.book.written < 2 ^ 63) is (c.requires.served.count slot lent there) in
+    let ready = subst (IsPlayReady g.B.Feeder.kind g.B.Feeder.kept c.requires.served.filters) is
+    (c.requires.served.served.ready slot lent there) in
+    let counted = subst (λ (channel : PlayChannelOf _). channel.book.done + channel.book.written < 2 ^ 63) is
+    (c.requires.served.count slot lent there) in
     record { kinds = ready.kinds; counted = omega (arith, counted) }
 
 pub close-requires-in-Record : goal.close-requires-in-Record
@@ -62,13 +59,17 @@ returns-in-Play g c =
     let is = c.play.ensures.value in
     record {
       answer = search rules;
-      leaves = λ filters. leaves-played g.B.Feeder.kind g.B.Feeder.kept filters [] parent slot lent new (own-served c.requires.served.served) there is c.close.ensures.device (c.close.ensures.moves filters);
+      leaves = λ filters. leaves-played g.B.Feeder.kind g.B.Feeder.kept filters [] parent slot lent new
+          (own-served c.requires.served.served) there is c.close.ensures.device (c.close.ensures.moves filters);
       desk = λ filters descriptors ready at.
           let device = seen filters parent.device in
           let own = own-lent parent.device (play_channels parent) slot lent there is c.requires.served.served.own in
           let desk : Desk = desk_with parent descriptors in
-          (turn-played device (λ (book : PlayBook). record { book = closing device (desk_here device desk) book; reply = Ok Done }) parent descriptors slot lent new (Ok Done) there is
-          (c.close.ensures.book filters (subst (IsPlayServed filters) (sym is) (ready slot lent there).planned) ∙ ap (λ (d : Device). closing (seen filters d) c.args.here lent.book) own ∙ ap (λ (here : Here). closing device here lent.book) at) refl).0
+          (turn-played device (λ (book : PlayBook). record { book = closing device (desk_here device desk) book; reply = Ok Done }) parent
+          descriptors slot lent new (Ok Done) there is
+          (c.close.ensures.book filters (subst (IsPlayServed filters) (sym is) (ready slot lent there).planned)
+          ∙ ap (λ (d : Device). closing (seen filters d) c.args.here lent.book) own
+          ∙ ap (λ (here : Here). closing device here lent.book) at) refl).0
           ∙ sym (ap (λ (w : Way). closed_held device desk (channel_of w slot)) c.in-Play.is);
     }
 
@@ -84,10 +85,12 @@ returns-in-Record g c =
     let is = c.recorder.ensures.value in
     record {
       answer = search rules;
-      leaves = λ filters. leaves-recorded g.B.Feeder.kind g.B.Feeder.kept filters parent slot lent new (own-served c.requires.served.served) there is closes.device (closes.moves filters);
+      leaves = λ filters. leaves-recorded g.B.Feeder.kind g.B.Feeder.kept filters parent slot lent new (own-served c.requires.served.served)
+          there is closes.device (closes.moves filters);
       desk = λ filters descriptors ready at.
           let device = seen filters parent.device in
-          (turn-recorded device (λ (book : RecordBook). record { book = closed book; reply = Ok Done }) parent descriptors slot lent new (Ok Done) there is closes.book refl).0
+          (turn-recorded device (λ (book : RecordBook). record { book = closed book; reply = Ok Done }) parent descriptors slot lent new
+          (Ok Done) there is closes.book refl).0
           ∙ sym (ap (λ (w : Way). closed_held device (desk_with parent descriptors) (channel_of w slot)) c.in-Record.is);
     }
 
@@ -104,10 +107,12 @@ returns-in-Map g c =
     record {
       answer = search rules;
       leaves = λ filters.
-          leaves-mapped g.B.Feeder.kind g.B.Feeder.kept filters parent slot lent new (own-served c.requires.served.served) there is closes.device
+          leaves-mapped g.B.Feeder.kind g.B.Feeder.kept filters parent slot lent new (own-served c.requires.served.served) there is
+          closes.device
           (keeps-closed g.B.Feeder.kind g.B.Feeder.kept filters 0 lent new closes.book closes.area (closes.moves filters));
       desk = λ filters descriptors ready at.
           let device = seen filters parent.device in
-          (turn-mapped device (λ (book : MapBook). record { book = map_closed book; reply = Ok Done }) parent descriptors slot lent new (Ok Done) there is closes.book refl).0
+          (turn-mapped device (λ (book : MapBook). record { book = map_closed book; reply = Ok Done }) parent descriptors slot lent new
+          (Ok Done) there is closes.book refl).0
           ∙ sym (ap (λ (w : Way). closed_held device (desk_with parent descriptors) (channel_of w slot)) c.in-Map.is);
     }

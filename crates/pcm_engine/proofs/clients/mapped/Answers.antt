@@ -8,5 +8,9 @@ returns g c =
     let parent = c.args.parent.now in
     let same : c.number_of-number.result - parent.device.play_slots ≡ c.args.place = omega (arith, c.number_of-number.ensures) in (
       (refl, λ w. ap (λ (place : ℕ). with_map_channel parent place w) same),
-      record { writes_back = tt; value = c.mapped.ensures.value ∙ ap (λ (place : ℕ). get_or (map_channels parent) place c.mapped.result.now) same },
+      record {
+        writes_back = tt;
+        value = c.mapped.ensures.value
+            ∙ ap (λ (place : ℕ). get_or (map_channels parent) place c.mapped.result.now) same;
+      },
     )

@@ -19,7 +19,8 @@ use Rattle.pcm_engine.proofs.clients.poke.Goals as goal
 pub mapped-requires : goal.mapped-requires
 mapped-requires g c =
     let parent = c.args.parent.now in
-    let e = slot-is Map (held_by (desk_with parent c.args.descriptors.now) c.args.fd) c.in_ok-slot.slot (sym c.slot_of.ensures ∙ c.in_ok-slot.was) in
+    let e = slot-is Map (held_by (desk_with parent c.args.descriptors.now) c.args.fd) c.in_ok-slot.slot
+    (sym c.slot_of.ensures ∙ c.in_ok-slot.was) in
     let there = map-there parent c.args.descriptors.now c.args.fd c.in_ok-slot.slot c.requires.called.asks.able.apart e in
     omega (arith, there, items-count parent.maps)
 
@@ -38,10 +39,13 @@ returns g c = λ filters.
     let poked = c.poke.ensures in
     record {
       silent = ap bytes_due poked.reply ∙ poke-silent c.args.offset count lent.book;
-      takes = takes-mapped g.B.Feeder.kind g.B.Feeder.kept filters (turn_on (Poke c.args.fd c.args.offset 0 count)) parent c.args.descriptors.now (poked_in (held_by desk c.args.fd) c.args.offset c.args.bytes.now) (poke_turn c.args.offset count) slot lent c.poke.new.self c.poke.result
+      takes = takes-mapped g.B.Feeder.kind g.B.Feeder.kept filters (turn_on (Poke c.args.fd c.args.offset 0 count)) parent
+          c.args.descriptors.now (poked_in (held_by desk c.args.fd) c.args.offset c.args.bytes.now) (poke_turn c.args.offset count) slot
+          lent c.poke.new.self c.poke.result
           own there is (ap (channel_turn (seen filters parent.device) desk (Poke c.args.fd c.args.offset 0 count)) e) poked.book poked.reply
           (leaves-written g.B.Feeder.kind g.B.Feeder.kept filters _ parent slot lent c.poke.new.self own there is poked.device
-          (each-poked g.B.Feeder.kind g.B.Feeder.kept filters (held_by desk c.args.fd) c.args.offset c.args.bytes.now (map_channels parent) slot lent c.poke.new.self e there is
+          (each-poked g.B.Feeder.kind g.B.Feeder.kept filters (held_by desk c.args.fd) c.args.offset c.args.bytes.now (map_channels parent)
+          slot lent c.poke.new.self e there is
           (poked.book ∙ poke-kept c.args.offset count lent.book) poked.area (poked.moves filters))) poked.refused;
     }
 
@@ -56,9 +60,11 @@ returns-in_err-slot g c = λ filters.
     let was = sym c.slot_of.ensures ∙ c.in_err-slot.was in
     let is = handed-on c.from_residual.result errno c.from_residual.ensures.0 c.from_residual.ensures.1 in
     let leaves = leaves-mapping g.B.Feeder.kind g.B.Feeder.kept filters _ parent parent own (output-same parent) refl refl own.mapped
-    (each-unpoked g.B.Feeder.kind g.B.Feeder.kept filters found c.args.offset c.args.bytes.now (map_channels parent) (unmapped found errno was)) in
+    (each-unpoked g.B.Feeder.kind g.B.Feeder.kept filters found c.args.offset c.args.bytes.now (map_channels parent)
+    (unmapped found errno was)) in
     record {
       silent = ap bytes_due is;
-      takes = takes-refusal g.B.Feeder.kind g.B.Feeder.kept filters (turn_on (Poke c.args.fd c.args.offset 0 n)) parent c.args.descriptors.now [] _ _ errno leaves
+      takes = takes-refusal g.B.Feeder.kind g.B.Feeder.kept filters (turn_on (Poke c.args.fd c.args.offset 0 n)) parent
+          c.args.descriptors.now [] _ _ errno leaves
           (poke-refused (seen filters parent.device) desk c.args.fd c.args.offset 0 n found errno was) is;
     }

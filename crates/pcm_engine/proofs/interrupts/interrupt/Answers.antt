@@ -11,11 +11,22 @@ returns-clause-applied g c = λ descriptors bytes.
     let made = c.interrupt.ensures in
     let device : DeviceSeen = seen c.args.tables.now old.device in
     let play = play_books_of-passed device old.handed c.args.frames (play_channels old) (play_channels new) made.slots made.books in
-    let recording = record_books_of-captured device c.args.frames (record_channels old) (record_channels new) made.recorders_slots (λ slot other there. (made.recorders slot other there).book) in
-    let mapped = map_books_of-passed device old.handed c.args.frames (map_channels old) (map_channels new) made.maps_slots (λ slot other there. (made.maps slot other there).book) in
+    let recording = record_books_of-captured device c.args.frames (record_channels old) (record_channels new) made.recorders_slots
+    (λ slot other there. (made.recorders slot other there).book) in
+    let mapped = map_books_of-passed device old.handed c.args.frames (map_channels old) (map_channels new) made.maps_slots
+    (λ slot other there. (made.maps slot other there).book) in
     record {
       rules = record {
-        desk = λ i. record { play = play i; recording = recording i; mapped = mapped i; descriptors = descriptors.held.value; groups = descriptors.groups; mixer = made.mixer i; handed = made.handed i; mixed = made.mixed i };
+        desk = λ i. record {
+          play = play i;
+          recording = recording i;
+          mapped = mapped i;
+          descriptors = descriptors.held.value;
+          groups = descriptors.groups;
+          mixer = made.mixer i;
+          handed = made.handed i;
+          mixed = made.mixed i;
+        };
         result = refl;
         refused = λ err. cc;
         answered = λ bytes frames stand. refl;

@@ -9,7 +9,8 @@ new-requires-clause-limits c = c.in-Some.ensures.limits c.in_ok-tables.tables (s
 
 pub returns-clause-made : goal.returns-clause-made
 returns-clause-made c =
-    new-moved _ _ _ _ _ _ c.in_ok-session.session.engine (ap (λ (session : Session). session.of.engine) c.in_ok-session-2.ensures.ok) (record {
+    new-moved _ _ _ _ _ _ c.in_ok-session.session.engine (ap (λ (session : Session). session.of.engine) c.in_ok-session-2.ensures.ok)
+    (record {
       made = c.in-Some.device;
       tables = c.in_ok-tables.tables;
       made_is = sym c.device_from.ensures.value ∙ c.in-Some.is;
@@ -20,4 +21,5 @@ returns-clause-made c =
     })
 
 pub returns-clause-ready : goal.returns-clause-ready
-returns-clause-ready c = ready-moved _ _ _ c.in_ok-session.session.engine (ap (λ (session : Session). session.of.engine) c.in_ok-session-2.ensures.ok) c.in_ok-session.ensures.ready
+returns-clause-ready c = ready-moved _ _ _ c.in_ok-session.session.engine
+    (ap (λ (session : Session). session.of.engine) c.in_ok-session-2.ensures.ok) c.in_ok-session.ensures.ready

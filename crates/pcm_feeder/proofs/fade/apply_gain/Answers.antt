@@ -10,4 +10,5 @@ returns-then-gain-eq65536-2 c =
     let n = channels_of c.args.layout in
     let samples = c.args.frames.now in
     sym (interleaved-frames_of n samples c.requires.whole)
-    ∙ ap interleaved (sym (unity-same c.args.layout c.args.gain (frames_of n samples) c.if-gain-eq65536.true c.if-gain-eq65536-2.true (frames_of-channels n samples)))
+    ∙ ap interleaved (sym (unity-same c.args.layout c.args.gain (frames_of n samples) c.if-gain-eq65536.true c.if-gain-eq65536-2.true
+    (frames_of-channels n samples)))

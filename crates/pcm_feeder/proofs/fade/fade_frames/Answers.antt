@@ -18,10 +18,14 @@ loop-k-preserved c =
     let width : k * n + n - k * n ≡ n = omega arith in
     let within : k + 1 ≤ length input / n = omega (arith, c.loop-k-test.true) in
     let same = rest-stays gains k input c.loop-k.frames within c.loop-k.invariant in
-    let is = c.fade_frame.ensures ∙ ap (λ w. at_gains gains (take w (drop (k * n) c.loop-k.frames))) width ∙ ap (λ rest. at_gains gains (take n rest)) same in
-    let long = ap length is ∙ length-at_gains gains (frame_in n input k) (length-take-le n (drop (k * n) input) (omega (arith, length-drop (k * n) input, mul-le-mul_right n within, div-add-mod' (length input) n))) in
+    let is = c.fade_frame.ensures ∙ ap (λ w. at_gains gains (take w (drop (k * n) c.loop-k.frames))) width
+    ∙ ap (λ rest. at_gains gains (take n rest)) same in
+    let long = ap length is ∙ length-at_gains gains (frame_in n input k)
+    (length-take-le n (drop (k * n) input) (omega
+    (arith, length-drop (k * n) input, mul-le-mul_right n within, div-add-mod' (length input) n))) in
     ap (λ w. put_mid (k * n) w c.loop-k.frames c.fade_frame.new.frame) width
-    ∙ put-more (at_gains gains) n n k input input c.loop-k.frames c.fade_frame.new.frame (length-at_gains gains) within c.loop-k.invariant is long
+    ∙ put-more (at_gains gains) n n k input input c.loop-k.frames c.fade_frame.new.frame (length-at_gains gains) within c.loop-k.invariant
+    is long
 
 pub returns : goal.returns
 returns c =

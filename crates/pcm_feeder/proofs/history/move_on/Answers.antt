@@ -10,4 +10,6 @@ returns-else-more-count c =
     let eaten = c.args.eaten.now in
     let all : length kept + (length eaten - length kept) ≡ length eaten = omega (arith, c.if-more-count.false) in
     let last = drop (length eaten - length kept) eaten in
-    c.copy_from_slice-else-more-count.ensures.after ∙ take_all (length eaten - (length eaten - length kept)) last (omega (arith, length-drop (length eaten - length kept) eaten)) ∙ sym (drop-append-add kept eaten (length eaten - length kept)) ∙ ap (λ n. drop n (kept ++ eaten)) all
+    c.copy_from_slice-else-more-count.ensures.after
+    ∙ take_all (length eaten - (length eaten - length kept)) last (omega (arith, length-drop (length eaten - length kept) eaten))
+    ∙ sym (drop-append-add kept eaten (length eaten - length kept)) ∙ ap (λ n. drop n (kept ++ eaten)) all

@@ -4,7 +4,8 @@ use Rattle.pcm_feeder.proofs.Fitted.{StandsFor-fitted, fresh-stands, turn-fits}
 use Rattle.pcm_feeder.proofs.laws.a_feed_continues_its_stream.Goals as goal
 
 pub returns-clause-continues : goal.returns-clause-continues
-returns-clause-continues c spec is kept tables gain x input given want h have = turn-continues spec kept tables gain x input given want is h have
+returns-clause-continues c spec is kept tables gain x input given want h have = turn-continues spec kept tables gain x input given want is h
+    have
 
 pub returns-clause-begins : goal.returns-clause-begins
 returns-clause-begins c = fresh-stands

@@ -7,4 +7,5 @@ returns-clause-value c = search rules
 
 pub returns-clause-range : goal.returns-clause-range
 returns-clause-range c =
-    rw (returns-clause-value c) (FitsBits-floor_div c.args.bits c.args.sample c.requires.least c.requires.most (FitsBits-from_signed c.args.sample c.ranges.sample))
+    rw (returns-clause-value c) (FitsBits-floor_div c.args.bits c.args.sample c.requires.least c.requires.most
+    (FitsBits-from_signed c.args.sample c.ranges.sample))

@@ -10,12 +10,14 @@ use Rattle.pcm_format.specs.Samples.{at_full}
 use Rattle.pcm_format.proofs.depth.bring_to_full.Goals as goal
 
 -- the samples after one that is changed still fit
-still-fit : (bits : ℕ) (samples : List ℤ) (i : ℕ) (value : ℤ) → i < length samples → All (FitsBits bits) (drop i samples) → All (FitsBits bits) (drop (i + 1) (set samples i value))
+still-fit : (bits : ℕ) (samples : List ℤ) (i : ℕ) (value : ℤ) → i < length samples → All (FitsBits bits) (drop i samples)
+    → All (FitsBits bits) (drop (i + 1) (set samples i value))
 still-fit bits samples i value h fit =
     let next : suc i ≡ i + 1 = omega arith in
     subst (All (FitsBits bits)) (sym (drop-set-lt (i + 1) samples i value (omega arith)))
     (subst (λ (k : ℕ). All (FitsBits bits) (drop k samples)) next
-    (All-tail (FitsBits bits) (get_or samples i (pos 0)) (drop (suc i) samples) (subst (All (FitsBits bits)) (drop-cons samples i (pos 0) h) fit)))
+    (All-tail (FitsBits bits) (get_or samples i (pos 0)) (drop (suc i) samples)
+    (subst (All (FitsBits bits)) (drop-cons samples i (pos 0) h) fit)))
 
 -- one sample more is changed
 one-more : (f : ℤ → ℤ) (samples : List ℤ) (i : ℕ) (value : ℤ) → i < length samples → value ≡ f (get_or samples i (pos 0))
@@ -36,6 +38,7 @@ loop-i-preserved c =
     let value = c.at_full.result in
     simp to_z-of_z (
       subst (λ (k : ℕ). take k (set samples i value) ++ map f (drop k (set samples i value)) ≡ map f c.args.samples.now) next
-          (one-more f samples i value here (c.at_full.ensures ∙ ap f (to_z-of_z w32 (get_or samples i (pos 0)) old)) ∙ c.loop-i.invariant.0),
+          (one-more f samples i value here (c.at_full.ensures ∙ ap f (to_z-of_z w32 (get_or samples i (pos 0)) old))
+          ∙ c.loop-i.invariant.0),
       still-fit (bits_of c.args.format) samples i value here c.loop-i.invariant.1,
     )

@@ -9,7 +9,8 @@ use Rattle.pcm_format.specs.Samples.{loaded, sample_at}
 use Rattle.pcm_format.proofs.frame.load_each.Goals as goal
 
 -- the bytes from sample i on are its own
-at_place : (f : Format) (bytes : List ℕ) (i width : ℕ) → width ≡ bytes_of f → loaded f (slice_range bytes (i * width) (i * width + width)) ≡ sample_at f bytes i
+at_place : (f : Format) (bytes : List ℕ) (i width : ℕ) → width ≡ bytes_of f
+    → loaded f (slice_range bytes (i * width) (i * width + width)) ≡ sample_at f bytes i
 at_place f bytes i width is =
     let long : i * width + width - i * width ≡ bytes_of f = omega arith in
     let start : i * width ≡ i * bytes_of f = ap (λ n. i * n) is in
@@ -17,7 +18,8 @@ at_place f bytes i width is =
 
 -- one more sample
 load_more : (f : Format) (bytes : List ℕ) (out : List ℤ) (i : ℕ) (x : ℤ) → i < length out → x ≡ sample_at f bytes i
-    → take i out ≡ map (sample_at f bytes) (range_with_len 0 i) → take (i + 1) (set out i x) ≡ map (sample_at f bytes) (range_with_len 0 (i + 1))
+    → take i out ≡ map (sample_at f bytes) (range_with_len 0 i)
+    → take (i + 1) (set out i x) ≡ map (sample_at f bytes) (range_with_len 0 (i + 1))
 load_more f bytes out i x within is before =
     take_more_set out i x within ∙ ap (λ t. t ++ x ∷ []) before ∙ ap (λ y. map (sample_at f bytes) (range_with_len 0 i) ++ y ∷ []) is
     ∙ sym (map-range_with_len_more (sample_at f bytes) 0 i i (omega arith))
@@ -28,4 +30,5 @@ loop-i-preserved c =
     let bytes = c.args.bytes.now in
     let l = c.loop-i in
     let fits : FitsSigned w32 c.load.result = search rules in
-    load_more f bytes l.out l.i _ (omega arith) (to_z-of_z w32 c.load.result fits ∙ c.load.ensures ∙ at_place f bytes l.i c.bytes-width.result c.bytes-width.ensures) l.invariant
+    load_more f bytes l.out l.i _ (omega arith)
+    (to_z-of_z w32 c.load.result fits ∙ c.load.ensures ∙ at_place f bytes l.i c.bytes-width.result c.bytes-width.ensures) l.invariant

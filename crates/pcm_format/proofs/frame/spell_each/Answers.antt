@@ -12,9 +12,11 @@ use Rattle.pcm_format.proofs.Spelling.{length-spelled}
 use Rattle.pcm_format.proofs.frame.spell_each.Goals as goal
 
 -- one more value
-spell_more : (f : Format) (values : List ℤ) (out piece : List ℕ) (i width : ℕ) → i < length values → length out ≡ length values * bytes_of f → width ≡ bytes_of f
+spell_more : (f : Format) (values : List ℤ) (out piece : List ℕ) (i width : ℕ) → i < length values → length out ≡ length values * bytes_of f
+    → width ≡ bytes_of f
     → piece ≡ spelled f (get_or values i (pos 0)) → take (i * bytes_of f) out ≡ flat_map (spelled f) (take i values)
-    → take ((i + 1) * bytes_of f) (put_mid (i * width) (i * width + width - i * width) out piece) ≡ flat_map (spelled f) (take (i + 1) values)
+    → take ((i + 1) * bytes_of f) (put_mid (i * width) (i * width + width - i * width) out piece) ≡ flat_map (spelled f)
+    (take (i + 1) values)
 spell_more f values out piece i width within all is piece_is before =
     let value = get_or values i (pos 0) in
     let start : i * width ≡ i * bytes_of f = ap (λ n. i * n) is in
@@ -31,5 +33,6 @@ loop-i-preserved c =
     let l = c.loop-i in
     let value = get_or c.args.values.now l.i (pos 0) in
     let fits : FitsSigned w32 value = search rules in
-    spell_more f c.args.values.now l.out c.spell.new.out l.i c.bytes-width.result (omega arith) (omega (arith, c.requires.lengths)) c.bytes-width.ensures
+    spell_more f c.args.values.now l.out c.spell.new.out l.i c.bytes-width.result (omega arith) (omega (arith, c.requires.lengths))
+    c.bytes-width.ensures
     (c.spell.ensures ∙ ap (spelled f) (to_z-of_z w32 value fits)) l.invariant

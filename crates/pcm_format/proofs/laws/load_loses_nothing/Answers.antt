@@ -12,7 +12,8 @@ returns-clause-again c = λ f bytes sample. stored-loaded f bytes sample.whole s
 
 pub returns-clause-range : goal.returns-clause-range
 returns-clause-range c = λ f bytes sample.
-    FitsBits-mul_pow (bits_of f) (sample_value f bytes) (bits_of-above f) (bits_of-within f) (sample_value-fits f bytes sample.whole sample.each)
+    FitsBits-mul_pow (bits_of f) (sample_value f bytes) (bits_of-above f) (bits_of-within f)
+    (sample_value-fits f bytes sample.whole sample.each)
 
 pub returns-clause-fits : goal.returns-clause-fits
 returns-clause-fits c = λ f x. FitsBits-floor_div (bits_of f) x (bits_of-above f) (bits_of-within f)

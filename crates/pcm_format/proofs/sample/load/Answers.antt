@@ -18,4 +18,5 @@ returns c =
     let f = c.args.f in
     let value : FitsSigned w32 c.value_of.result = search rules in
     let full : FitsSigned w32 c.at_full.result = search rules in
-    simp to_z-of_z (c.at_full.ensures ∙ simp to_z-of_z (ap (at_full (bits_of f)) (c.value_of.ensures.value ∙ ap (value_of (is_signed f) (half_of f)) c.number_of.ensures)))
+    simp to_z-of_z (c.at_full.ensures ∙ simp to_z-of_z
+    (ap (at_full (bits_of f)) (c.value_of.ensures.value ∙ ap (value_of (is_signed f) (half_of f)) c.number_of.ensures)))

@@ -4,8 +4,10 @@ use Rattle.pcm_format.specs.Samples.{low_bytes}
 use Rattle.pcm_format.proofs.sample.put_low_bytes.Goals as goal
 
 -- one more byte of the rest
-put_more : (out : List ℕ) (i rest number : ℕ) → i < length out → take i out ++ low_bytes (length out - i) rest ≡ low_bytes (length out) number
-    → take (i + 1) (set out i (rest % 256)) ++ low_bytes (length (set out i (rest % 256)) - (i + 1)) (rest / 256) ≡ low_bytes (length (set out i (rest % 256))) number
+put_more : (out : List ℕ) (i rest number : ℕ) → i < length out → take i out
+    ++ low_bytes (length out - i) rest ≡ low_bytes (length out) number
+    → take (i + 1) (set out i (rest % 256)) ++ low_bytes (length (set out i (rest % 256)) - (i + 1)) (rest / 256) ≡ low_bytes
+    (length (set out i (rest % 256))) number
 put_more out i rest number within before =
     let one : suc (length out - (i + 1)) ≡ length out - i = omega arith in
     let left = low_bytes (length out - (i + 1)) (rest / 256) in

@@ -13,7 +13,8 @@ returns-in_err-bytes-clause-err g c =
     let whole = data_part c.args.config.now c.args.loaded.now.files.items c.args.file.now in
     err-as _ c.in_err-bytes.field-0.0 c.from_residual.result c.from_residual.ensures.1
     (ends-as whole (file_part c.as_str-path.result.now) _ _ _
-    (file-begins c.args.config.now c.args.loaded.now.files.items c.args.file.now c.as_str-path.result.now _ c.as_str-path.ensures) c.in_err-bytes.ensures.err)
+    (file-begins c.args.config.now c.args.loaded.now.files.items c.args.file.now c.as_str-path.result.now _ c.as_str-path.ensures)
+    c.in_err-bytes.ensures.err)
 
 -- with the others it is too long
 pub returns-then-size-left-clause-err : goal.returns-then-size-left-clause-err
@@ -42,7 +43,8 @@ returns-in-Ok-file_of-clause-ok g c =
     on-ok c.keep.result c.keep.ensures.ok (λ kept. record {
       next = c.in-Ok-file_of.next;
       gives = record {
-        came = file-comes config before file c.as_str-path.result.now c.left.result bytes _ _ c.as_str-path.ensures c.left.ensures.value c.in_ok-bytes.ensures.ok
+        came = file-comes config before file c.as_str-path.result.now c.left.result bytes _ _ c.as_str-path.ensures c.left.ensures.value
+            c.in_ok-bytes.ensures.ok
             (file-judged config before file _ bytes c.in-Ok-file_of.next (c.in-Ok.ensures.ok ∙ c.as_str.ensures)
             (omega (arith, c.len-size.ensures, c.left-2.ensures.value)) c.in-Ok-file_of.ensures.judged);
         only = c.in_ok-bytes.ensures.only;

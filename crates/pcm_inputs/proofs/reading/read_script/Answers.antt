@@ -21,9 +21,11 @@ returns-in_err-text-clause-err g c =
 -- the script is the one that the text is
 pub returns-in-Ok-clause-ok : goal.returns-in-Ok-clause-ok
 returns-in-Ok-clause-ok g c =
-    let read = subst (λ (text : List ℕ). script_read (unfiltered c.args.config.now.device) c.args.waves.now text ≡ Ok c.in-Ok.script) c.deref.ensures.value c.in-Ok.ensures.read in
+    let read = subst (λ (text : List ℕ). script_read (unfiltered c.args.config.now.device) c.args.waves.now text ≡ Ok c.in-Ok.script)
+    c.deref.ensures.value c.in-Ok.ensures.read in
     record {
-      came = script-comes c.args.config.now c.args.waves.now c.args.name.now c.in_ok-text.text.items _ _ c.in_ok-text.ensures.ok (ap or_bad_script read);
+      came = script-comes c.args.config.now c.args.waves.now c.args.name.now c.in_ok-text.text.items _ _ c.in_ok-text.ensures.ok
+          (ap or_bad_script read);
       only = c.in_ok-text.ensures.only;
     }
 
@@ -32,8 +34,11 @@ pub returns-in-Err-Refused-clause-err : goal.returns-in-Err-Refused-clause-err
 returns-in-Err-Refused-clause-err g c =
     let only = c.in_ok-text.ensures.only in
     let read = script_read (unfiltered c.args.config.now.device) c.args.waves.now in
-    let text = subst (λ (text : List ℕ). ReadsScript (Err c.in-Err-Refused.field-0) (read text)) c.deref.ensures.value c.in-Err-Refused.ensures.read in
-    let refused = subst (λ (fault : ScriptFault). ReadsScript (Err fault) (read c.in_ok-text.text.items)) c.in-Err-Refused.field-0-is text in
+    let text = subst (λ (text : List ℕ). ReadsScript (Err c.in-Err-Refused.field-0) (read text)) c.deref.ensures.value
+    c.in-Err-Refused.ensures.read in
+    let refused = subst (λ (fault : ScriptFault). ReadsScript (Err fault) (read c.in_ok-text.text.items)) c.in-Err-Refused.field-0-is
+    text in
     script-refused (script_part c.args.config.now c.args.waves.now c.args.name.now) c.in-Err-Refused.refusal _ _ _
-    (script-comes c.args.config.now c.args.waves.now c.args.name.now c.in_ok-text.text.items _ _ c.in_ok-text.ensures.ok (ap or_bad_script refused))
+    (script-comes c.args.config.now c.args.waves.now c.args.name.now c.in_ok-text.text.items _ _ c.in_ok-text.ensures.ok
+    (ap or_bad_script refused))
     only.files (tells-behind (BadScript c.in-Err-Refused.refusal) _ _ _ _ only c.refuse.ensures)

@@ -10,8 +10,10 @@ loop-filled-init c =
     let first = c.min-first.result in
     let front = c.copy_from_slice.new.self in
     let rest = drop first c.args.bytes.now in
-    let long : length front ≡ first = c.copy_from_slice.ensures.len ∙ omega (arith, length-take first c.args.bytes.now, c.min-first.ensures) in
-    let size : length (front ++ rest) ≡ length c.args.bytes.now = omega (arith, length-append front rest, long, length-drop first c.args.bytes.now, c.min-first.ensures) in
+    let long : length front ≡ first = c.copy_from_slice.ensures.len
+    ∙ omega (arith, length-take first c.args.bytes.now, c.min-first.ensures) in
+    let size : length (front ++ rest) ≡ length
+    c.args.bytes.now = omega (arith, length-append front rest, long, length-drop first c.args.bytes.now, c.min-first.ensures) in
     record {
       size = size;
       some = λ more. omega (arith, c.min-first.ensures, c.requires, size, more);
@@ -34,11 +36,14 @@ loop-filled-preserved c =
       within = omega (arith, size, room);
       whole = λ more.
           let twice : count ≡ l.filled = omega (arith, c.double-filled.ensures.count, size, more) in
-          ap (λ n. (l.filled + n) % length c.args.sample.now) twice ∙ whole-doubled (length c.args.sample.now) l.filled (l.invariant.whole c.loop-filled-test.true);
+          ap (λ n. (l.filled + n) % length c.args.sample.now) twice
+          ∙ whole-doubled (length c.args.sample.now) l.filled (l.invariant.whole c.loop-filled-test.true);
       repeated = subst (Repeats c.args.sample.now (l.filled + count)) (sym c.double-filled.ensures.bytes)
-          (repeats-doubled c.args.sample.now l.bytes l.filled count (omega (arith, c.double-filled.ensures.count)) room (l.invariant.whole c.loop-filled-test.true) l.invariant.repeated);
+          (repeats-doubled c.args.sample.now l.bytes l.filled count (omega (arith, c.double-filled.ensures.count)) room
+          (l.invariant.whole c.loop-filled-test.true) l.invariant.repeated);
     }
 
 pub returns : goal.returns
 returns c =
-    fill_by_all (λ b. slice_index_or c.args.sample.now (b % length c.args.sample.now) 0) c.loop-filled.bytes (length c.args.bytes.now) 0 c.loop-filled.invariant.size (λ k below. c.loop-filled.invariant.repeated k (omega (arith, c.loop-filled-test.false)))
+    fill_by_all (λ b. slice_index_or c.args.sample.now (b % length c.args.sample.now) 0) c.loop-filled.bytes (length c.args.bytes.now) 0
+    c.loop-filled.invariant.size (λ k below. c.loop-filled.invariant.repeated k (omega (arith, c.loop-filled-test.false)))

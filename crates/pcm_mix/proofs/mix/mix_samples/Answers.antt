@@ -14,8 +14,10 @@ loop-at-preserved c =
     let b = get_or c.args.add.now c.loop-at.at (pos 0) in
     let a_is = to_z-of_z w32 a (search rules) in
     let b_is = to_z-of_z w32 b (search rules) in
-    let sum_is : to_z w32 (of_z w32 c.sum.result) ≡ limited_sum bits a b = to_z-of_z w32 c.sum.result (search rules) ∙ c.sum.ensures ∙ (λ i. limited_sum bits (a_is i) (b_is i)) in
+    let sum_is : to_z w32 (of_z w32 c.sum.result) ≡ limited_sum bits a b = to_z-of_z w32 c.sum.result (search rules) ∙ c.sum.ensures
+    ∙ (λ i. limited_sum bits (a_is i) (b_is i)) in
     let fits : FitsBits bits (to_z w32 (of_z w32 c.sum.result)) = subst (FitsBits bits) (sym sum_is) (clamped-fits bits (a +ℤ b)) in (
       All-set (FitsBits bits) c.loop-at.acc c.loop-at.at (to_z w32 (of_z w32 c.sum.result)) fits c.loop-at.invariant.0,
-      rw add-one (mixed-step bits c.loop-at.acc c.args.add.now c.loop-at.at _ (pos 0) (omega arith) c.loop-at-test.true sum_is ∙ c.loop-at.invariant.1),
+      rw add-one (mixed-step bits c.loop-at.acc c.args.add.now c.loop-at.at _ (pos 0) (omega arith) c.loop-at-test.true sum_is
+          ∙ c.loop-at.invariant.1),
     )

@@ -16,7 +16,17 @@ of-requires c =
     let way = converting tables c.args.quality client device in
     let equaliser = equaliser_stages tables (channels_of device.layout) in
     let last = depth_stages (bits_of device.format) (channels_of device.layout) in
-    let stages : c.push_depth.new.stages.items ≡ (plan_play tables c.args.quality client device).stages =
-    rw (c.push_depth.ensures, c.push.ensures.items, c.push_equaliser.ensures.stages, c.push_converting.ensures.stages, c.list.ensures.value, c.bits.ensures, c.channels-channels.ensures)
+    let stages : c.push_some-2.new.stages.items ≡ (plan_play tables c.args.quality client device).stages =
+    rw (
+      c.push_some-2.ensures.stages,
+      c.depth_to.ensures,
+      c.push.ensures.items,
+      c.push_some.ensures.stages,
+      c.equaliser_over.ensures,
+      c.push_converting.ensures.stages,
+      c.list.ensures.value,
+      c.bits.ensures,
+      c.channels-channels.ensures,
+    )
     (append_assoc (way ++ equaliser) (Volume device.layout ∷ []) last ∙ append_assoc way equaliser (Volume device.layout ∷ last)) in
     rw stages (play-fits tables c.args.quality client device limits c.requires.rates.client c.requires.rates.device)

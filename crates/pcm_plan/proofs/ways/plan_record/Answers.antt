@@ -12,7 +12,14 @@ of-requires c =
     let client = c.args.client.now in
     let device = c.args.device.now in
     let limits : AreFilters tables = c.list.ensures.limits in
-    let stages : c.push_depth.new.stages.items ≡ (plan_record tables c.args.quality client device).stages =
-    rw (c.push_depth.ensures, c.push_converting.ensures.stages, c.list.ensures.value, c.bits.ensures, c.channels.ensures)
+    let stages : c.push_some.new.stages.items ≡ (plan_record tables c.args.quality client device).stages =
+    rw (
+      c.push_some.ensures.stages,
+      c.depth_to-depth.ensures,
+      c.push_converting.ensures.stages,
+      c.list.ensures.value,
+      c.bits.ensures,
+      c.channels.ensures,
+    )
     (refl {a = converting tables c.args.quality device client ++ depth_stages (bits_of client.format) (channels_of client.layout)}) in
     rw stages (record-fits tables c.args.quality client device limits c.requires.rates.client c.requires.rates.device)

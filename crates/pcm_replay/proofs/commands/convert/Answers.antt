@@ -29,7 +29,8 @@ returns-in_err-convert_wave-clause-err g c =
     let after : Outside = outside (g.F.Files.seen c.convert_wave.new.files) (g.K.Sink.seen c.convert_wave.new.out) in
     let read = c.in_ok-source.ensures.ok in
     let ending = c.in_err-convert_wave.field-0.0 in
-    err-as (EndsCommand command before after) ending c.from_residual-in_err-convert_wave.result c.from_residual-in_err-convert_wave.ensures.1
+    err-as (EndsCommand command before after) ending c.from_residual-in_err-convert_wave.result
+    c.from_residual-in_err-convert_wave.ensures.1
     (cuts-command command accepted ending before between after (refl, refl)
     (comes-convert c.args.input.now c.args.name.now c.args.target conversion before.files read.came) read.only
     (cuts-conversion c.args.name.now conversion ending between after c.in_err-convert_wave.ensures.err))
@@ -45,4 +46,5 @@ returns-clause-ok g c =
     let after : Outside = outside (g.F.Files.seen c.convert_wave.new.files) (g.K.Sink.seen c.convert_wave.new.out) in
     let read = c.in_ok-source.ensures.ok in
     does-command g.B.Feeder.kind g.B.Feeder.kept command accepted None before between after (refl, refl)
-    (comes-convert c.args.input.now c.args.name.now c.args.target conversion before.files read.came) read.only tt c.in_ok-convert_wave.ensures.ok
+    (comes-convert c.args.input.now c.args.name.now c.args.target conversion before.files read.came) read.only tt
+    c.in_ok-convert_wave.ensures.ok

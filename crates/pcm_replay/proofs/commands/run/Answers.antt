@@ -29,7 +29,8 @@ returns-in_err-engine-clause-err g c =
     let between : Outside = outside (g.F.Files.seen c.read_inputs.new.files) (g.K.Sink.seen c.read_inputs.new.out) in
     let after : Outside = outside (g.F.Files.seen c.run_script.new.files) (g.K.Sink.seen c.run_script.new.out) in
     let read = c.in_ok-inputs.ensures.ok in
-    err-as (EndsCommand command before after) c.in_err-engine.field-0.0 c.from_residual-in_err-engine.result c.from_residual-in_err-engine.ensures.1
+    err-as (EndsCommand command before after) c.in_err-engine.field-0.0 c.from_residual-in_err-engine.result
+    c.from_residual-in_err-engine.ensures.1
     (cuts-command command accepted c.in_err-engine.field-0.0 before between after refl
     (comes-run c.args.script.now c.args.name.now (named c.args.config) inputs before.files read.came) read.only c.in_err-engine.ensures.err)
 
@@ -44,4 +45,5 @@ returns-clause-ok g c =
     let after : Outside = outside (g.F.Files.seen c.run_script.new.files) (g.K.Sink.seen c.run_script.new.out) in
     let read = c.in_ok-inputs.ensures.ok in
     does-command g.B.Feeder.kind g.B.Feeder.kept command accepted (Some c.in_ok-engine.engine) before between after refl
-    (comes-run c.args.script.now c.args.name.now (named c.args.config) inputs before.files read.came) read.only c.in_ok-engine.ensures.ran c.in_ok-engine.ensures.ok
+    (comes-run c.args.script.now c.args.name.now (named c.args.config) inputs before.files read.came) read.only c.in_ok-engine.ensures.ran
+    c.in_ok-engine.ensures.ok

@@ -17,16 +17,17 @@ loop-at-init g c = record {
   first = first-none (playback (device_of c.args.replay.now.engine) c.args.pool.now c.args.events.now) _ c.requires.created refl;
 }
 
-pub play_at-requires-clause-created : goal.play_at-requires-clause-created
-play_at-requires-clause-created g c = c.loop-at.invariant.first.only.files.stands
-
 -- the device of the engine is the one that can be stepped through the events
-pub play_at-requires-clause-events : goal.play_at-requires-clause-events
-play_at-requires-clause-events g c =
-    subst (λ (device : DeviceSeen). CanRun EVENTS device c.args.pool.now c.args.events.now) (sym c.loop-at.invariant.device_is) c.requires.events
-
-pub play_at-requires-clause-played : goal.play_at-requires-clause-played
-play_at-requires-clause-played g c = c.loop-at.invariant.played
+pub play_at-requires : goal.play_at-requires
+play_at-requires g c = record {
+  created = c.loop-at.invariant.first.only.files.stands;
+  next = record {
+    there = omega arith;
+    runs = subst (λ (device : DeviceSeen). CanRun EVENTS device c.args.pool.now c.args.events.now) (sym c.loop-at.invariant.device_is)
+        c.requires.events;
+    played = c.loop-at.invariant.played;
+  };
+}
 
 -- an event was cut short, after those so far
 pub returns-in_default-clause-err : goal.returns-in_default-clause-err
@@ -36,7 +37,8 @@ returns-in_default-clause-err g c = record {
   first = c.loop-at.invariant.first;
   only = c.in_default.ensures.only;
   next = subst (λ (device : DeviceSeen). CutsNext (playback device c.args.pool.now c.args.events.now) c.loop-at.at
-      (outside (g.F.Files.seen c.loop-at.files) (g.K.Sink.seen c.loop-at.out)) (outside (g.F.Files.seen c.play_at.new.files) (g.K.Sink.seen c.play_at.new.out)))
+      (outside (g.F.Files.seen c.loop-at.files) (g.K.Sink.seen c.loop-at.out))
+      (outside (g.F.Files.seen c.play_at.new.files) (g.K.Sink.seen c.play_at.new.out)))
       c.loop-at.invariant.device_is c.in_default.ensures.err;
 }
 
@@ -45,9 +47,11 @@ pub loop-at-preserved : goal.loop-at-preserved
 loop-at-preserved g c = record {
   played = c.in-Ok.ensures.played;
   device_is = c.in-Ok.ensures.device ∙ c.loop-at.invariant.device_is;
-  first = first-more (playback (device_of c.args.replay.now.engine) c.args.pool.now c.args.events.now) c.loop-at.at _ _ _ c.loop-at.invariant.first c.in-Ok.ensures.only
+  first = first-more (playback (device_of c.args.replay.now.engine) c.args.pool.now c.args.events.now) c.loop-at.at _ _ _
+      c.loop-at.invariant.first c.in-Ok.ensures.only
       (subst (λ (device : DeviceSeen). WritesNext (playback device c.args.pool.now c.args.events.now) c.loop-at.at
-      (outside (g.F.Files.seen c.loop-at.files) (g.K.Sink.seen c.loop-at.out)) (outside (g.F.Files.seen c.play_at.new.files) (g.K.Sink.seen c.play_at.new.out)))
+      (outside (g.F.Files.seen c.loop-at.files) (g.K.Sink.seen c.loop-at.out))
+      (outside (g.F.Files.seen c.play_at.new.files) (g.K.Sink.seen c.play_at.new.out)))
       c.loop-at.invariant.device_is c.in-Ok.ensures.ok);
 }
 
@@ -55,7 +59,8 @@ loop-at-preserved g c = record {
 pub returns-clause-played : goal.returns-clause-played
 returns-clause-played g c =
     let all : c.loop-at.at ≡ length c.args.events.now = omega arith in
-    subst (λ (done : ℕ). HasPlayed g.B.Feeder.kind g.B.Feeder.kept c.loop-at.replay c.args.pool.now c.args.events.now done) all c.loop-at.invariant.played
+    subst (λ (done : ℕ). HasPlayed g.B.Feeder.kind g.B.Feeder.kept c.loop-at.replay c.args.pool.now c.args.events.now done) all
+    c.loop-at.invariant.played
 
 pub returns-clause-device : goal.returns-clause-device
 returns-clause-device g c = c.loop-at.invariant.device_is
@@ -64,5 +69,6 @@ pub returns-clause-ok : goal.returns-clause-ok
 returns-clause-ok g c =
     let all : c.loop-at.at ≡ length c.args.events.now = omega arith in
     subst (λ (done : ℕ). WritesFirst (playback (device_of c.args.replay.now.engine) c.args.pool.now c.args.events.now) done
-    (outside (g.F.Files.seen c.args.files.now) (g.K.Sink.seen c.args.out.now)) (outside (g.F.Files.seen c.loop-at.files) (g.K.Sink.seen c.loop-at.out)))
+    (outside (g.F.Files.seen c.args.files.now) (g.K.Sink.seen c.args.out.now))
+    (outside (g.F.Files.seen c.loop-at.files) (g.K.Sink.seen c.loop-at.out)))
     all c.loop-at.invariant.first

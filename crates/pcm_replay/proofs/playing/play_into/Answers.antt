@@ -25,15 +25,27 @@ pub returns-clause-ok : goal.returns-clause-ok
 returns-clause-ok g c =
     on-ok c.play.result c.play.ensures.ok
     (written-events c.args.name.now c.args.head.now (playback (device_of c.args.replay.now.engine) c.args.pool.now c.args.events.now)
-    (outside (g.F.Files.seen c.args.files.now) (g.K.Sink.seen c.args.out.now)) (outside (g.F.Files.seen c.play.new.files) (g.K.Sink.seen c.play.new.out))
+    (outside (g.F.Files.seen c.args.files.now) (g.K.Sink.seen c.args.out.now))
+    (outside (g.F.Files.seen c.play.new.files) (g.K.Sink.seen c.play.new.out))
     (g.F.Files.seen c.create.new.self) (g.F.Files.seen c.append_some.new.files)
-    (record { only = c.in-Ok.ensures.only; creates = c.in-Ok.ensures.ok; head_only = c.in-Ok-append_some.ensures.only; head_appended = c.in-Ok-append_some.ensures.ok }))
+    (record {
+      only = c.in-Ok.ensures.only;
+      creates = c.in-Ok.ensures.ok;
+      head_only = c.in-Ok-append_some.ensures.only;
+      head_appended = c.in-Ok-append_some.ensures.ok;
+    }))
 
 -- an event was cut short
 pub returns-clause-err : goal.returns-clause-err
 returns-clause-err g c =
     on-err c.play.result c.play.ensures.err
     (cut-events c.args.name.now c.args.head.now (playback (device_of c.args.replay.now.engine) c.args.pool.now c.args.events.now)
-    (outside (g.F.Files.seen c.args.files.now) (g.K.Sink.seen c.args.out.now)) (outside (g.F.Files.seen c.play.new.files) (g.K.Sink.seen c.play.new.out))
+    (outside (g.F.Files.seen c.args.files.now) (g.K.Sink.seen c.args.out.now))
+    (outside (g.F.Files.seen c.play.new.files) (g.K.Sink.seen c.play.new.out))
     (g.F.Files.seen c.create.new.self) (g.F.Files.seen c.append_some.new.files)
-    (record { only = c.in-Ok.ensures.only; creates = c.in-Ok.ensures.ok; head_only = c.in-Ok-append_some.ensures.only; head_appended = c.in-Ok-append_some.ensures.ok }))
+    (record {
+      only = c.in-Ok.ensures.only;
+      creates = c.in-Ok.ensures.ok;
+      head_only = c.in-Ok-append_some.ensures.only;
+      head_appended = c.in-Ok-append_some.ensures.ok;
+    }))

@@ -13,9 +13,11 @@ loop-event-init c = refl
 pub loop-event-preserved : goal.loop-event-preserved
 loop-event-preserved c =
     elim c.match-event.branch [
-      | in-Intr w ↦ greatest-more c.args.events.now c.loop-event.event-index c.loop-event.most c.match-event.most w.in-Intr.frames _ c.loop-event-test.true (ap frames_taken w.in-Intr.is) c.loop-event.invariant
+      | in-Intr w ↦ greatest-more c.args.events.now c.loop-event.event-index c.loop-event.most c.match-event.most w.in-Intr.frames _
+          c.loop-event-test.true (ap frames_taken w.in-Intr.is) c.loop-event.invariant
           (w.most-is ∙ grind (arith, w.max-most.ensures))
-      | in_default w ↦ greatest-more c.args.events.now c.loop-event.event-index c.loop-event.most c.match-event.most 0 _ c.loop-event-test.true (takes-none _ w.in_default.not-Intr) c.loop-event.invariant
+      | in_default w ↦ greatest-more c.args.events.now c.loop-event.event-index c.loop-event.most c.match-event.most 0 _
+          c.loop-event-test.true (takes-none _ w.in_default.not-Intr) c.loop-event.invariant
           (omega (arith, w.most-is))
     ]
 

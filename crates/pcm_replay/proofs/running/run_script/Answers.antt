@@ -39,16 +39,23 @@ play_into-requires-clause-played g c = c.in-Ok.ensures.played c.pool_from-pool.r
 -- what it was to leave was cut short
 pub returns-in_default-play_into-clause-err : goal.returns-in_default-play_into-clause-err
 returns-in_default-play_into-clause-err g c =
-    run-same (λ head one. CutsRun c.args.name.now head one (outside (g.F.Files.seen c.args.files.now) (g.K.Sink.seen c.args.out.now)) (outside (g.F.Files.seen c.play_into.new.files) (g.K.Sink.seen c.play_into.new.out)))
-    c.deref.result.now (playback (device_of c.in-Ok.replay.engine) c.pool_from-pool.result c.as_slice-events.result.now) (inputs_seen c.args.inputs)
+    run-same (λ head one. CutsRun c.args.name.now head one (outside (g.F.Files.seen c.args.files.now) (g.K.Sink.seen c.args.out.now))
+    (outside (g.F.Files.seen c.play_into.new.files) (g.K.Sink.seen c.play_into.new.out)))
+    c.deref.result.now (playback (device_of c.in-Ok.replay.engine) c.pool_from-pool.result c.as_slice-events.result.now)
+    (inputs_seen c.args.inputs)
     (c.deref.ensures.value ∙ c.in_ok-head.ensures.ok c.args.inputs.config.tables)
-    (playback-same (device_of c.in-Ok.replay.engine) c.pool_from-pool.result c.as_slice-events.result.now (inputs_seen c.args.inputs) c.in-Ok.ensures.device c.pool_from-pool.ensures c.as_slice-events.ensures)
+    (playback-same (device_of c.in-Ok.replay.engine) c.pool_from-pool.result c.as_slice-events.result.now (inputs_seen c.args.inputs)
+    c.in-Ok.ensures.device c.pool_from-pool.ensures c.as_slice-events.ensures)
     c.in_default-play_into.ensures.err
 
 pub returns-clause-ok : goal.returns-clause-ok
 returns-clause-ok g c =
-    run-same (λ head one. WritesAll (output_played c.args.name.now head one) (outside (g.F.Files.seen c.args.files.now) (g.K.Sink.seen c.args.out.now)) (outside (g.F.Files.seen c.play_into.new.files) (g.K.Sink.seen c.play_into.new.out)))
-    c.deref.result.now (playback (device_of c.in-Ok.replay.engine) c.pool_from-pool.result c.as_slice-events.result.now) (inputs_seen c.args.inputs)
+    run-same (λ head one. WritesAll (output_played c.args.name.now head one)
+    (outside (g.F.Files.seen c.args.files.now) (g.K.Sink.seen c.args.out.now))
+    (outside (g.F.Files.seen c.play_into.new.files) (g.K.Sink.seen c.play_into.new.out)))
+    c.deref.result.now (playback (device_of c.in-Ok.replay.engine) c.pool_from-pool.result c.as_slice-events.result.now)
+    (inputs_seen c.args.inputs)
     (c.deref.ensures.value ∙ c.in_ok-head.ensures.ok c.args.inputs.config.tables)
-    (playback-same (device_of c.in-Ok.replay.engine) c.pool_from-pool.result c.as_slice-events.result.now (inputs_seen c.args.inputs) c.in-Ok.ensures.device c.pool_from-pool.ensures c.as_slice-events.ensures)
+    (playback-same (device_of c.in-Ok.replay.engine) c.pool_from-pool.result c.as_slice-events.result.now (inputs_seen c.args.inputs)
+    c.in-Ok.ensures.device c.pool_from-pool.ensures c.as_slice-events.ensures)
     c.in-Ok-play_into.ensures.ok

@@ -12,7 +12,8 @@ use Rattle.pcm_replay.proofs.Doing.{ends-call, ends-formless}
 use Rattle.pcm_replay.proofs.top.carry_out.Goals as goal
 
 -- what a command was done to, its words were
-does-words : {B : Type 0} (kind : B → Kind) (kept : B → Kept) (call : Call) (spells : Spells call.words) (r : Result (Option (EngineOf B)) Ending)
+does-words : {B : Type 0} (kind : B → Kind) (kept : B → Kept) (call : Call) (spells : Spells call.words)
+    (r : Result (Option (EngineOf B)) Ending)
     → IfOk r (DoesCommand kind kept spells.command call.before call.after) → IfOk r (DoesWords kind kept call)
 does-words kind kept call spells (Ok engine) does = record { spells = spells; does = does }
 does-words kind kept call spells (Err ending) does = tt
@@ -44,4 +45,5 @@ returns-clause-err g c =
 
 -- the words match no form
 pub returns-in_default-clause-err : goal.returns-in_default-clause-err
-returns-in_default-clause-err g c = ends-formless _ (g.F.Files.seen c.args.files.now) _ _ c.refuse_words.result (sym c.in_default.ensures.value) c.refuse_words.ensures
+returns-in_default-clause-err g c = ends-formless _ (g.F.Files.seen c.args.files.now) _ _ c.refuse_words.result
+    (sym c.in_default.ensures.value) c.refuse_words.ensures

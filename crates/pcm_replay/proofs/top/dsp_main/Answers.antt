@@ -32,7 +32,8 @@ pub returns-in-Ok-None-clause-converted : goal.returns-in-Ok-None-clause-convert
 returns-in-Ok-None-clause-converted g c = λ is name conversion. leaves-all _ _ _ _ c.in-Ok-None.ensures.ok (Converts name conversion)
 
 pub returns-in-Ok-None-clause-finished : goal.returns-in-Ok-None-clause-finished
-returns-in-Ok-None-clause-finished g c = λ is. finishes-as _ _ _ _ c.in-Ok-None.field-0 c.in-Ok-None.ensures.ok (rw c.in-Ok-None.field-0-is refl)
+returns-in-Ok-None-clause-finished g c = λ is. finishes-as _ _ _ _ c.in-Ok-None.field-0 c.in-Ok-None.ensures.ok
+    (rw c.in-Ok-None.field-0-is refl)
 
 -- ---- what was asked for is there, and its engine is left
 
@@ -58,7 +59,8 @@ pub returns-in-Ok-Some-clause-converted : goal.returns-in-Ok-Some-clause-convert
 returns-in-Ok-Some-clause-converted g c = λ is name conversion. leaves-all _ _ _ _ c.in-Ok-Some.ensures.ok (Converts name conversion)
 
 pub returns-in-Ok-Some-clause-finished : goal.returns-in-Ok-Some-clause-finished
-returns-in-Ok-Some-clause-finished g c = λ is. finishes-as _ _ _ _ c.in-Ok-Some.field-0 c.in-Ok-Some.ensures.ok (rw c.in-Ok-Some.field-0-is refl)
+returns-in-Ok-Some-clause-finished g c = λ is. finishes-as _ _ _ _ c.in-Ok-Some.field-0 c.in-Ok-Some.ensures.ok
+    (rw c.in-Ok-Some.field-0-is refl)
 
 -- ---- what ended early
 
@@ -66,13 +68,16 @@ pub returns-in-Err-clause-judged : goal.returns-in-Err-clause-judged
 returns-in-Err-clause-judged g c = judged-ended _ c.in-Err.ending c.status.result c.status.ensures c.in-Err.ensures.err
 
 pub returns-in-Err-clause-read_cause : goal.returns-in-Err-clause-read_cause
-returns-in-Err-clause-read_cause g c = λ named. ended-as _ c.in-Err.ending CannotRead c.status.result c.status.ensures named c.in-Err.ensures.err
+returns-in-Err-clause-read_cause g c = λ named. ended-as _ c.in-Err.ending CannotRead c.status.result c.status.ensures named
+    c.in-Err.ensures.err
 
 pub returns-in-Err-clause-bad_config : goal.returns-in-Err-clause-bad_config
-returns-in-Err-clause-bad_config g c = λ named. ended-as _ c.in-Err.ending BadConfig c.status.result c.status.ensures named c.in-Err.ensures.err
+returns-in-Err-clause-bad_config g c = λ named. ended-as _ c.in-Err.ending BadConfig c.status.result c.status.ensures named
+    c.in-Err.ensures.err
 
 pub returns-in-Err-clause-bad_script : goal.returns-in-Err-clause-bad_script
-returns-in-Err-clause-bad_script g c = λ named. ended-as _ c.in-Err.ending BadScript c.status.result c.status.ensures named c.in-Err.ensures.err
+returns-in-Err-clause-bad_script g c = λ named. ended-as _ c.in-Err.ending BadScript c.status.result c.status.ensures named
+    c.in-Err.ensures.err
 
 pub returns-in-Err-clause-bad_wave : goal.returns-in-Err-clause-bad_wave
 returns-in-Err-clause-bad_wave g c = λ named. ended-as _ c.in-Err.ending BadWave c.status.result c.status.ensures named c.in-Err.ensures.err

@@ -10,7 +10,8 @@ returns-then-begins_comment c =
     let kept = lent c.loop-rest.words.items in
     let held = rw c.in-Some.is at c.loop-rest.invariant.1 in
     let cut = parts_of-first c.in-Some.text.now c.first_part.result.0.now c.first_part.result.1 c.first_part.ensures.parts in
-    sym c.loop-rest.invariant.0 ∙ sym (with_parts-comment kept (parts_of c.first_part.result.1) c.first_part.result.0.now (search rules)) ∙ sym (ap (with_parts kept) cut) ∙ held
+    sym c.loop-rest.invariant.0 ∙ sym (with_parts-comment kept (parts_of c.first_part.result.1) c.first_part.result.0.now (search rules))
+    ∙ sym (ap (with_parts kept) cut) ∙ held
 
 pub loop-rest-preserved : goal.loop-rest-preserved
 loop-rest-preserved c =
@@ -18,7 +19,8 @@ loop-rest-preserved c =
     let held = rw c.in-Some.is at c.loop-rest.invariant.1 in
     let cut = parts_of-first c.in-Some.text.now c.first_part.result.0.now c.first_part.result.1 c.first_part.ensures.parts in (
       rw c.keep.ensures (take-take KEPT KEPT _ (omega arith)),
-      rw c.keep.ensures (with_parts-more kept (parts_of c.first_part.result.1) c.first_part.result.0.now (search rules) ∙ sym (ap (with_parts kept) cut) ∙ held),
+      rw c.keep.ensures (with_parts-more kept (parts_of c.first_part.result.1) c.first_part.result.0.now (search rules)
+          ∙ sym (ap (with_parts kept) cut) ∙ held),
     )
 
 pub returns : goal.returns

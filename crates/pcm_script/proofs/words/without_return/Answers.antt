@@ -14,5 +14,6 @@ stripped line (Some front) same = sym (ap without_return same ∙ without_return
 
 pub returns : goal.returns
 returns c =
-    let stripped_is = strip_suffix_is {E = eqb} (λ a b. search (rules, tests)) c.args.line.now (13 ∷ []) c.strip_suffix.result c.strip_suffix.ensures.cases in
+    let stripped_is = strip_suffix_is {E = eqb} (λ a b. search (rules, tests)) c.args.line.now (13 ∷ []) c.strip_suffix.result
+    c.strip_suffix.ensures.cases in
     ap (λ b. b.now) c.unwrap_or.ensures ∙ stripped c.args.line c.strip_suffix.result stripped_is

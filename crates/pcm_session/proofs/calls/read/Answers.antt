@@ -11,4 +11,5 @@ put_front-requires g c =
     let new = c.takes.new.session in
     subst (λ (bytes : List ℕ). length bytes ≤ length c.args.out.now) (sym c.bytes.ensures)
     (read-within g.B.Feeder.kept c.args.fd (length c.args.out.now) old new.engine new.reply
-    (subst (λ (event : Option Event). IsStepOf g.B.Feeder.kept event [] [] old new.engine new.reply []) c.event_for_read.ensures (c.takes.ensures.step (subst IsOk (sym c.in-Ok.is) refl))))
+    (subst (λ (event : Option Event). IsStepOf g.B.Feeder.kept event [] [] old new.engine new.reply []) c.event_for_read.ensures
+    (c.takes.ensures.step (subst IsOk (sym c.in-Ok.is) refl))))

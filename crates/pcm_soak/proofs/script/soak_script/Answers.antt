@@ -32,7 +32,14 @@ loop-preserved c =
           ∙ ap (λ n. (before ++ (drawn_event state).value ∷ []) ++ drawn_events n (drawn_event state).state) left
           ∙ sym (drawn_events-more before (DRAWN_EVENTS - l.counter) state (omega arith))
           ∙ l.invariant.events;
-      frames = omega (arith, l.invariant.frames, c.frames_of.ensures, sum_by-append frames_taken before (drawn.result ∷ []), ap all_frames_taken pushed);
+      frames = omega (
+        arith,
+        l.invariant.frames,
+        c.frames_of.ensures,
+        sum_by-append frames_taken before (drawn.result ∷ []),
+        ap
+            all_frames_taken pushed,
+      );
       few = omega (arith, l.invariant.few, c.frames_of.ensures, drawn.ensures.few);
     }
 
@@ -45,6 +52,7 @@ returns c =
     ∙ ap (λ n. l.events.items ++ drawn_events n l.draws.state) (sym none)
     ∙ l.invariant.events in
     record {
-      made = soak_script-parts c.args.n c.new.result c.new-2.result l.device_frames (c.new.ensures ∙ all) (c.new-2.ensures ∙ c.in_ok-inline_bytes.ensures)
+      made = soak_script-parts c.args.n c.new.result c.new-2.result l.device_frames (c.new.ensures ∙ all)
+          (c.new-2.ensures ∙ c.in_ok-inline_bytes.ensures)
           (l.invariant.frames ∙ ap all_frames_taken (sym c.new.ensures));
     }

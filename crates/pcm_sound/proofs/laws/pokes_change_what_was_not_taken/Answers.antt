@@ -12,4 +12,5 @@ returns-clause-taken c = poke-takes-nothing
 pub returns-clause-next : goal.returns-clause-next
 returns-clause-next c = λ device pool events slot n first bytes blocks ptr rest taken told.
     let story = story_of device pool events in
-    next-at-pointer device n (map_at device story.desk slot) (story.areas slot) rest first bytes blocks ptr (areas-sized device pool events slot) taken told
+    next-at-pointer device n (map_at device story.desk slot) (story.areas slot) rest first bytes blocks ptr
+    (areas-sized device pool events slot) taken told

@@ -16,10 +16,12 @@ pub returns-in-Play : goal.returns-in-Play
 returns-in-Play g c =
     let device = device_of c.args.engine.now in
     let desk = desk_of c.args.engine.now in
-    ap (λ (found : Option Held). counts 1 (channel_turn device desk (Read c.args.fd 1) found).reply) (sym (at-way (held_by desk c.args.fd) c.in-Some.held Play (sym c.held.ensures ∙ c.in-Some.is) c.in-Play.is))
+    ap (λ (found : Option Held). counts 1 (channel_turn device desk (Read c.args.fd 1) found).reply)
+    (sym (at-way (held_by desk c.args.fd) c.in-Some.held Play (sym c.held.ensures ∙ c.in-Some.is) c.in-Play.is))
 
 pub returns-in-Map : goal.returns-in-Map
 returns-in-Map g c =
     let device = device_of c.args.engine.now in
     let desk = desk_of c.args.engine.now in
-    ap (λ (found : Option Held). counts 1 (channel_turn device desk (Read c.args.fd 1) found).reply) (sym (at-way (held_by desk c.args.fd) c.in-Some.held Map (sym c.held.ensures ∙ c.in-Some.is) c.in-Map.is))
+    ap (λ (found : Option Held). counts 1 (channel_turn device desk (Read c.args.fd 1) found).reply)
+    (sym (at-way (held_by desk c.args.fd) c.in-Some.held Map (sym c.held.ensures ∙ c.in-Some.is) c.in-Map.is))

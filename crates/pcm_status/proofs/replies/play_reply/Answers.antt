@@ -13,7 +13,8 @@ use Rattle.pcm_engine.specs.Engines.{desk_of, device_of}
 use Rattle.pcm_status.proofs.replies.play_reply.Goals as goal
 
 pub asked-requires-clause-delay : goal.asked-requires-clause-delay
-asked-requires-clause-delay g c = record { ratio = search rules; client = search rules; mix = search rules; place = search rules; at = grind (arith, common_steps) }
+asked-requires-clause-delay g c = record
+    { ratio = search rules; client = search rules; mix = search rules; place = search rules; at = grind (arith, common_steps) }
 
 pub returns : goal.returns
 returns g c =
@@ -23,7 +24,8 @@ returns g c =
     let there = play_rate_at device (play_at device desk c.args.slot) in
     let mix = (mix_settings device).rate in
     ap (λ (turn : Turn PlayBook). turn.reply) c.asked.ensures
-    ∙ ap (λ (d : Device). (play_ask c.play_rate-rate.result d.mix.rate c.here-here.result request c.play_book.result).reply) c.device.ensures
+    ∙ ap (λ (d : Device). (play_ask c.play_rate-rate.result d.mix.rate c.here-here.result request c.play_book.result).reply)
+    c.device.ensures
     ∙ ap (λ (rate : Rate). (play_ask rate mix c.here-here.result request c.play_book.result).reply) c.play_rate-rate.ensures.is
     ∙ ap (λ (here : Here). (play_ask there mix here request c.play_book.result).reply) c.here-here.ensures.is
     ∙ ap (λ (book : PlayBook). (play_ask there mix (desk_here device desk) request book).reply) c.play_book.ensures.is

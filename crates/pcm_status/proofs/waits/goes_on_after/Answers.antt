@@ -13,17 +13,19 @@ use Rattle.pcm_status.proofs.Held.{at-way, play-slot, play-taken, record-slot, r
 use Rattle.pcm_status.proofs.Passing.{held-after}
 use Rattle.pcm_status.proofs.waits.goes_on_after.Goals as goal
 
-pub play_book_after-requires-clause-there : goal.play_book_after-requires-clause-there
-play_book_after-requires-clause-there g c = play-slot c.args.engine.now c.args.fd c.args.held c.requires.holds.is c.in-Play.is
+pub play_book_after-requires : goal.play_book_after-requires
+play_book_after-requires g c = record {
+  ready = c.requires.holds.ready;
+  there = play-slot c.args.engine.now c.args.fd c.args.held c.requires.holds.is c.in-Play.is;
+  taken = play-taken c.args.engine.now c.args.fd c.args.held c.requires.holds.is c.in-Play.is;
+}
 
-pub play_book_after-requires-clause-taken : goal.play_book_after-requires-clause-taken
-play_book_after-requires-clause-taken g c = play-taken c.args.engine.now c.args.fd c.args.held c.requires.holds.is c.in-Play.is
-
-pub record_book_after-requires-clause-there : goal.record_book_after-requires-clause-there
-record_book_after-requires-clause-there g c = record-slot c.args.engine.now c.args.fd c.args.held c.requires.holds.is c.in-Record.is
-
-pub record_book_after-requires-clause-taken : goal.record_book_after-requires-clause-taken
-record_book_after-requires-clause-taken g c = record-taken c.args.engine.now c.args.fd c.args.held c.requires.holds.is c.in-Record.is
+pub record_book_after-requires : goal.record_book_after-requires
+record_book_after-requires g c = record {
+  ready = c.requires.holds.ready;
+  there = record-slot c.args.engine.now c.args.fd c.args.held c.requires.holds.is c.in-Record.is;
+  taken = record-taken c.args.engine.now c.args.fd c.args.held c.requires.holds.is c.in-Record.is;
+}
 
 pub returns-in-Play : goal.returns-in-Play
 returns-in-Play g c =
@@ -31,7 +33,8 @@ returns-in-Play g c =
     let desk = desk_of c.args.engine.now in
     let after = desk_after device desk c.args.frames in
     c.takes_whole.ensures (desk_here device after)
-    ∙ ap (λ (book : PlayBook). counts c.args.bytes (write_turn (desk_here device after) c.args.bytes book).reply) c.play_book_after.ensures.is
+    ∙ ap (λ (book : PlayBook). counts c.args.bytes (write_turn (desk_here device after) c.args.bytes book).reply)
+    c.play_book_after.ensures.is
     ∙ goes-by-write device after c.args.fd c.args.bytes c.args.held.slot
     (held-after device desk c.args.fd c.args.frames ∙ at-way (held_by desk c.args.fd) c.args.held Play c.requires.holds.is c.in-Play.is)
 

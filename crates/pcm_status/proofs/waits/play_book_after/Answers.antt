@@ -20,7 +20,8 @@ overflow_sub-after g c =
     let handed = c.args.engine.now.parent.handed in
     let before = ap (λ (here : Here). here.mixed) c.here-mixed.ensures.is in
     let after = ap (λ (here : Here). here.mixed) c.here_after-after.ensures.is in
-    let grows = need_grows (parent_rate device) handed (handed + c.args.frames) (parent-ratio device c.requires.ready.limits.device_is).dst (omega arith) in
+    let grows = need_grows (parent_rate device) handed (handed + c.args.frames) (parent-ratio device c.requires.ready.limits.device_is).dst
+    (omega arith) in
     omega (arith, before, after, grows)
 
 pub returns-clause-is : goal.returns-clause-is
@@ -36,7 +37,8 @@ returns-clause-is g c =
     let own = c.play_rate-rate.ensures.is ∙ ap (λ (b : PlayBook). play_rate_at device b) (sym c.play_book-book.ensures.is) in
     c.settled.ensures
     ∙ ap (λ (passed : ℤ). play_settled rate passed c.book_mixed.result) (ap (λ (here : Here). here.passed) c.here_after-after.ensures.is)
-    ∙ settled-after device desk c.args.frames c.args.slot more rate c.book_mixed.result (some-of c.args.frames c.if-frames-eq0.false) c.play_rate-rate.ensures.is
+    ∙ settled-after device desk c.args.frames c.args.slot more rate c.book_mixed.result (some-of c.args.frames c.if-frames-eq0.false)
+    c.play_rate-rate.ensures.is
     (ap (λ (m : ℕ). m - c.here-mixed.result.mixed) after ∙ ap (λ (m : ℕ). mixed_for device (handed + c.args.frames) - m) before)
     (c.book_mixed.ensures.opening ∙ ap (λ (b : PlayBook). b.opening) c.play_book-book.ensures.is)
     (c.book_mixed.ensures.is device own
@@ -49,7 +51,10 @@ returns-clause-fragments g c =
     let rate = c.play_rate-rate.result in
     let book = c.play_book-book.result in
     let own = c.play_rate-rate.ensures.is ∙ ap (λ (b : PlayBook). play_rate_at device b) (sym c.play_book-book.ensures.is) in
-    let safe = subst (λ (r : _). PlayIsSafe r book) (sym own) (play-safe g.B.Feeder.kind g.B.Feeder.kept c.args.engine.now c.args.slot book c.requires.ready c.play_book-book.ensures.is) in
+    let safe = subst (λ (r : _). PlayIsSafe r book) (sym own)
+    (play-safe g.B.Feeder.kind g.B.Feeder.kept c.args.engine.now c.args.slot book c.requires.ready c.play_book-book.ensures.is) in
     let mixed = subst (PlayIsSafe rate) (sym (c.book_mixed.ensures.is device own))
-    (safe-mixing device rate c.here-mixed.result.mixed (c.here_after-after.result.mixed - c.here-mixed.result.mixed) book own c.play_rate-rate.ensures.near.ratio safe) in
-    (subst (PlayIsSafe rate) (sym c.settled.ensures) (safe-settled rate c.here_after-after.result.passed c.book_mixed.result mixed)).fragments
+    (safe-mixing device rate c.here-mixed.result.mixed (c.here_after-after.result.mixed - c.here-mixed.result.mixed) book own
+    c.play_rate-rate.ensures.near.ratio safe) in
+    (subst (PlayIsSafe rate) (sym c.settled.ensures)
+    (safe-settled rate c.here_after-after.result.passed c.book_mixed.result mixed)).fragments

@@ -32,7 +32,8 @@ captured-requires g c =
     let channel = some_channel recorders c.args.slot there in
     let found = get_or recorders c.args.slot channel in
     let client : IsRate book.opening.settings.rate =
-    subst (λ (b : RecordBook). IsRate b.opening.settings.rate) (sym (c.record_book-book.ensures.is ∙ record_at-books device desk recorders c.args.slot channel refl there)) found.serves.rate in
+    subst (λ (b : RecordBook). IsRate b.opening.settings.rate)
+    (sym (c.record_book-book.ensures.is ∙ record_at-books device desk recorders c.args.slot channel refl there)) found.serves.rate in
     let own = c.record_rate.ensures.is ∙ ap (λ (b : RecordBook). record_rate_at device b) (sym c.record_book-book.ensures.is) in
     let safe = record-safe g.B.Feeder.kind g.B.Feeder.kept engine c.args.slot book c.requires.ready c.record_book-book.ensures.is in
     let few = c.ranges.frames in
@@ -50,7 +51,8 @@ captured-requires g c =
         fragments = safe.fragments;
       };
       given = subst (λ (rate : Rate). book.given + coming rate n book < 2 ^ 64) (sym own) given;
-      kept = subst (λ (rate : Rate). book.kept + keeping rate n book * frame_bytes book.opening.settings < 2 ^ 64) (sym own) (omega (arith, bytes, kept));
+      kept = subst (λ (rate : Rate). book.kept + keeping rate n book * frame_bytes book.opening.settings < 2 ^ 64) (sym own)
+          (omega (arith, bytes, kept));
     }
 
 pub returns : goal.returns
@@ -59,5 +61,6 @@ returns g c =
     let desk = desk_of c.args.engine.now in
     c.captured.ensures
     ∙ ap (λ (rate : Rate). captured rate c.args.frames c.record_book-book.result) c.record_rate.ensures.is
-    ∙ ap (λ (book : RecordBook). captured (record_rate_at device (record_at device desk c.args.slot)) c.args.frames book) c.record_book-book.ensures.is
+    ∙ ap (λ (book : RecordBook). captured (record_rate_at device (record_at device desk c.args.slot)) c.args.frames book)
+    c.record_book-book.ensures.is
     ∙ captured-after device desk c.args.frames c.args.slot (some-of c.args.frames c.if-frames-eq0.false)

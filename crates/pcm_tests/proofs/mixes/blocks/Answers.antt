@@ -19,5 +19,6 @@ loop-at-init c =
 pub loop-at-preserved : goal.loop-at-preserved
 loop-at-preserved c = (
   put-fits c.args.bits c.loop-at.acc c.loop-at.at c.clamp_bits.result (search rules) c.clamp_bits.ensures.fits c.loop-at.invariant.0,
-  put-fits c.args.bits c.loop-at.add c.loop-at.at c.clamp_bits-in-loop-at.result (search rules) c.clamp_bits-in-loop-at.ensures.fits c.loop-at.invariant.1,
+  put-fits c.args.bits c.loop-at.add c.loop-at.at c.clamp_bits-in-loop-at.result (search rules) c.clamp_bits-in-loop-at.ensures.fits
+      c.loop-at.invariant.1,
 )

@@ -9,5 +9,6 @@ use Rattle.pcm_tests.proofs.texts.written_and_read.Goals as goal
 -- the writes of the script of a number name bytes that are there
 pub script_text-requires : goal.script_text-requires
 script_text-requires c = record {
-  found = subst (λ script. AllFound [] script) (sym c.in_ok-script.ensures.made) (found-fits usual_device [] (soak_script c.args.n) (soak_script-fits c.args.n));
+  found = subst (λ script. AllFound [] script) (sym c.in_ok-script.ensures.made)
+      (found-fits usual_device [] (soak_script c.args.n) (soak_script-fits c.args.n));
 }

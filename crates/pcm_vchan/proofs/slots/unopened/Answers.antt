@@ -19,9 +19,12 @@ loop-rack-init g c =
       boxes = rw (none, rest) refl;
     }
 
-pub new-requires-clause-kinds : goal.new-requires-clause-kinds
-new-requires-clause-kinds g c =
-    All-head (IsRack g.B.Feeder.kind) c.in-Some.rack c.next.new.self.rest.items (rw (c.in-Some.ensures.steps.0) at c.loop-rack.invariant.kinds)
+pub new-requires : goal.new-requires
+new-requires g c = record {
+  device = c.requires.device;
+  kinds = All-head (IsRack g.B.Feeder.kind) c.in-Some.rack c.next.new.self.rest.items
+      (rw (c.in-Some.ensures.steps.0) at c.loop-rack.invariant.kinds);
+}
 
 pub loop-rack-preserved : goal.loop-rack-preserved
 loop-rack-preserved g c =
@@ -31,19 +34,24 @@ loop-rack-preserved g c =
     let before = c.loop-rack.channels.items in
     let made : P channel = c.in_ok-new.ensures.unopened in
     let items = c.in_ok-push.ensures.items in
-    let longer : length c.push.new.self.items ≡ length before + 1 = ap (λ (list : List _). length list) items ∙ length_push before channel in
-    let shorter : length c.loop-rack.rack-iterator.rest.items ≡ length (c.in-Some.rack ∷ c.next.new.self.rest.items) = ap (λ (list : List (RackOf _)). length list) steps in
+    let longer : length c.push.new.self.items ≡ length before + 1 = ap (λ (list : List _). length list) items
+    ∙ length_push before channel in
+    let shorter : length c.loop-rack.rack-iterator.rest.items ≡ length (c.in-Some.rack ∷ c.next.new.self.rest.items) = ap
+    (λ (list : List (RackOf _)). length list) steps in
     let amount = c.loop-rack.invariant.amount in
     record {
       amount = omega arith;
       made = All-same P c.push.new.self.items (before ++ channel ∷ []) items (All-push P before channel c.loop-rack.invariant.made made);
       kinds = All-tail (IsRack g.B.Feeder.kind) c.in-Some.rack c.next.new.self.rest.items (rw steps at c.loop-rack.invariant.kinds);
-      boxes = one-more (λ made. marks_in g.B.Feeder.mark (g.C.Channel.path made).chain) (λ (rack : RackOf _). marks_of g.B.Feeder.mark (boxes_of rack)) before c.push.new.self.items
-          c.loop-rack.rack-iterator.rest.items c.next.new.self.rest.items channel c.in-Some.rack _ c.loop-rack.invariant.boxes items steps c.in_ok-new.ensures.boxes;
+      boxes = one-more (λ made. marks_in g.B.Feeder.mark (g.C.Channel.path made).chain)
+          (λ (rack : RackOf _). marks_of g.B.Feeder.mark (boxes_of rack)) before c.push.new.self.items
+          c.loop-rack.rack-iterator.rest.items c.next.new.self.rest.items channel c.in-Some.rack _ c.loop-rack.invariant.boxes items steps
+          c.in_ok-new.ensures.boxes;
     }
 
 pub returns-clause-boxes : goal.returns-clause-boxes
 returns-clause-boxes g c =
     ap (channel_marks g.C.Channel.path g.B.Feeder.mark) c.new-2.ensures.items
-    ∙ none-left (λ (rack : RackOf _). marks_of g.B.Feeder.mark (boxes_of rack)) (channel_marks g.C.Channel.path g.B.Feeder.mark c.loop-rack.channels.items) _ c.loop-rack.rack-iterator.rest.items
+    ∙ none-left (λ (rack : RackOf _). marks_of g.B.Feeder.mark (boxes_of rack))
+    (channel_marks g.C.Channel.path g.B.Feeder.mark c.loop-rack.channels.items) _ c.loop-rack.rack-iterator.rest.items
     (omega (arith, c.in-None.ensures.steps.0, c.loop-rack.rack-iterator.rest.ok.0)) c.loop-rack.invariant.boxes

@@ -12,21 +12,26 @@ pub returns-then-not-is_ready_if : goal.returns-then-not-is_ready_if
 returns-then-not-is_ready_if g c =
     let i = c.loop-slot.slot in
     let channel = c.index-channels-slot.result in
-    let rest : Bool = all_in c.args.group play_is_ready (drop (i + 1) c.args.groups.now.play) (drop (i + 1) (play_books_of c.args.channels.now)) in
+    let rest : Bool = all_in c.args.group play_is_ready (drop (i + 1) c.args.groups.now.play)
+    (drop (i + 1) (play_books_of c.args.channels.now)) in
     let tested = c.is_ready_if.ensures ∙ ap (λ (k : ℕ). not (eqb k c.args.group) || play_is_ready channel.book) c.of.ensures in
-    sym (sym c.loop-slot.invariant ∙ ready-step c.args.group c.args.groups.now.play c.args.channels.now i channel c.requires.some c.loop-slot-test.true c.index-channels-slot.is
+    sym (sym c.loop-slot.invariant ∙ ready-step c.args.group c.args.groups.now.play c.args.channels.now i channel c.requires.some
+    c.loop-slot-test.true c.index-channels-slot.is
     ∙ ap (λ (b : Bool). b && rest) (sym tested ∙ c.if-not-is_ready_if.true))
 
 pub loop-slot-preserved : goal.loop-slot-preserved
 loop-slot-preserved g c =
     let i = c.loop-slot.slot in
     let channel = c.index-channels-slot.result in
-    let rest : Bool = all_in c.args.group play_is_ready (drop (i + 1) c.args.groups.now.play) (drop (i + 1) (play_books_of c.args.channels.now)) in
+    let rest : Bool = all_in c.args.group play_is_ready (drop (i + 1) c.args.groups.now.play)
+    (drop (i + 1) (play_books_of c.args.channels.now)) in
     let tested = c.is_ready_if.ensures ∙ ap (λ (k : ℕ). not (eqb k c.args.group) || play_is_ready channel.book) c.of.ensures in
-    sym (sym c.loop-slot.invariant ∙ ready-step c.args.group c.args.groups.now.play c.args.channels.now i channel c.requires.some c.loop-slot-test.true c.index-channels-slot.is
+    sym (sym c.loop-slot.invariant ∙ ready-step c.args.group c.args.groups.now.play c.args.channels.now i channel c.requires.some
+    c.loop-slot-test.true c.index-channels-slot.is
     ∙ ap (λ (b : Bool). b && rest) (sym tested ∙ c.if-not-is_ready_if.false))
 
 pub returns : goal.returns
 returns g c =
     sym (sym c.loop-slot.invariant
-    ∙ ready-end c.args.group c.loop-slot.slot c.args.groups.now.play (play_books_of c.args.channels.now) (omega (arith, c.loop-slot-test.false, length-map c.args.channels.now (λ (channel : PlayChannelOf _). channel.book))))
+    ∙ ready-end c.args.group c.loop-slot.slot c.args.groups.now.play (play_books_of c.args.channels.now)
+    (omega (arith, c.loop-slot-test.false, length-map c.args.channels.now (λ (channel : PlayChannelOf _). channel.book))))

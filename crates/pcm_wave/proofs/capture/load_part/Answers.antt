@@ -13,7 +13,8 @@ returns c =
     let first = c.args.first in
     let size = c.frame_bytes-size.result in
     let begin : first * size ≡ first * frame_bytes s = ap (λ n. first * n) c.frame_bytes-size.ensures in
-    let end : (first + c.args.count) * size ≡ (first + c.args.count) * frame_bytes s = ap (λ n. (first + c.args.count) * n) c.frame_bytes-size.ensures in
+    let end : (first + c.args.count) * size ≡ (first + c.args.count) * frame_bytes s = ap (λ n. (first + c.args.count) * n)
+    c.frame_bytes-size.ensures in
     let long : (first + c.args.count) * size - first * size ≡ c.args.count * frame_bytes s = omega (arith, begin, end) in
     let start : first + 0 ≡ first = omega arith in
     c.load_frames.ensures

@@ -9,5 +9,7 @@ returns-in-Some c =
     let bytes = c.args.bytes.now in
     let word = c.args.word.now in
     let rest : c.in-Some.rest.now ≡ drop c.args.place bytes =
-    c.in-Some.ensures.lookup.0.2 ∙ take_all (length bytes - c.args.place) (drop c.args.place bytes) (omega (arith, length-drop c.args.place bytes)) in
-    c.starts_with.ensures.value ∙ ap (λ r. starts_with nat_eq r word) rest ∙ bytes_eq-sym word (take (length word) (drop c.args.place bytes))
+    c.in-Some.ensures.lookup.0.2 ∙ take_all (length bytes - c.args.place) (drop c.args.place bytes)
+    (omega (arith, length-drop c.args.place bytes)) in
+    c.starts_with.ensures.value ∙ ap (λ r. starts_with nat_eq r word) rest
+    ∙ bytes_eq-sym word (take (length word) (drop c.args.place bytes))

@@ -4,8 +4,8 @@ use Rattle.pcm_wave.proofs.Walks.{found_from}
 use Rattle.pcm_wave.proofs.read.read_wave.Given as goal
 
 -- the wave is the one that is found from the place on
-abbrev pub invariant-loop-known : goal.invariant-loop-known
-invariant-loop-known l = wave_of l.bytes ≡ found_from l.bytes l.known l.place
+abbrev pub invariant-loop-chunk : goal.invariant-loop-chunk
+invariant-loop-chunk l = wave_of l.bytes ≡ found_from l.bytes l.known l.place
 
-abbrev pub decreases-loop-known : goal.decreases-loop-known
-decreases-loop-known l = length l.bytes - l.place
+abbrev pub decreases-loop-chunk : goal.decreases-loop-chunk
+decreases-loop-chunk l = length l.bytes - l.place

@@ -21,16 +21,21 @@ pass-requires-clause-whole_frames c =
     ∙ mul-mod_left m n
 
 -- what a feed does
-done : (c : goal.After-output-1) → Does c.in-Some.fitted.channels c.in-Some.fitted.sections c.args.tables.now (tail_of c.in-Some.fitted) (frames_of c.in-Some.fitted.channels c.args.input.now) c.min-frames.result
+done : (c : goal.After-output-1) → Does c.in-Some.fitted.channels c.in-Some.fitted.sections c.args.tables.now (tail_of c.in-Some.fitted)
+    (frames_of c.in-Some.fitted.channels c.args.input.now) c.min-frames.result
     (fed (kept_when c.args.self.now.fitted) c.args.tables.now c.args.pull.gain c.args.input.now c.args.pull.want)
 done c =
     let found = c.in-Some.fitted in
-    let can : CanFeed (Eq found.channels found.sections) c.args.tables.now c.args.pull.gain c.args.input.now c.args.pull.want c.args.output.now =
-    subst (λ f. CanBeFed (kept_when f) c.args.tables.now c.args.pull.gain c.args.input.now c.args.pull.want c.args.output.now) c.in-Some.is c.requires in
-    rw c.in-Some.is (does found.channels found.sections c.args.tables.now c.args.pull.gain (tail_of found) c.args.input.now c.args.pull.want c.min-frames.result can.filter c.min-frames.ensures)
+    let can : CanFeed (Eq found.channels found.sections) c.args.tables.now c.args.pull.gain c.args.input.now c.args.pull.want
+    c.args.output.now =
+    subst (λ f. CanBeFed (kept_when f) c.args.tables.now c.args.pull.gain c.args.input.now c.args.pull.want c.args.output.now) c.in-Some.is
+    c.requires in
+    rw c.in-Some.is (does found.channels found.sections c.args.tables.now c.args.pull.gain (tail_of found) c.args.input.now c.args.pull.want
+    c.min-frames.result can.filter c.min-frames.ensures)
 
 -- the samples that go through, as frames
-input-is : (c : goal.After-output-1) → frames_of c.in-Some.fitted.channels c.copy_from_slice.new.self ≡ take c.min-frames.result (frames_of c.in-Some.fitted.channels c.args.input.now)
+input-is : (c : goal.After-output-1) → frames_of c.in-Some.fitted.channels c.copy_from_slice.new.self ≡ take c.min-frames.result
+    (frames_of c.in-Some.fitted.channels c.args.input.now)
 input-is c =
     let n = c.in-Some.fitted.channels in
     let above : 0 < n = omega (arith, c.in-Some.fitted.limits.least) in
@@ -52,9 +57,11 @@ returns-clause-frames c =
     let samples = c.pass.new.samples in
     let within : m ≤ length c.args.input.now / n = omega (arith, c.min-frames.ensures) in
     let long : length samples ≡ m * n =
-    c.pass.ensures.len ∙ ap length c.copy_from_slice.ensures.after ∙ length-take-le (m * n) c.args.input.now (front-within n m c.args.input.now within) in
-    let same : samples ≡ interleaved (fed (kept_when c.args.self.now.fitted) c.args.tables.now c.args.pull.gain c.args.input.now c.args.pull.want).frames =
-    c.pass.ensures.samples
+    c.pass.ensures.made.len ∙ ap length c.copy_from_slice.ensures.after
+    ∙ length-take-le (m * n) c.args.input.now (front-within n m c.args.input.now within) in
+    let same : samples ≡ interleaved (fed (kept_when c.args.self.now.fitted) c.args.tables.now c.args.pull.gain c.args.input.now
+    c.args.pull.want).frames =
+    c.pass.ensures.made.samples
     ∙ ap (λ list. interleaved (sections_on n list (tail_of found) (frames_of n c.copy_from_slice.new.self))) c.sections.ensures.value
     ∙ ap (λ list. interleaved (sections_on n c.args.tables.now.sections (tail_of found) list)) (input-is c)
     ∙ ap interleaved (sym (done c).frames) in
@@ -65,11 +72,12 @@ returns-clause-kept c =
     let found = c.in-Some.fitted in
     let new = c.pass.new.self in
     let n = found.channels in
-    let tail : tail_of new ≡ past_behind n c.args.tables.now.sections (tail_of found) (take c.min-frames.result (frames_of n c.args.input.now)) =
+    let tail : tail_of new ≡ past_behind n c.args.tables.now.sections (tail_of found)
+    (take c.min-frames.result (frames_of n c.args.input.now)) =
     c.pass.ensures.kept
     ∙ ap (λ list. past_behind n list (tail_of found) (frames_of n c.copy_from_slice.new.self)) c.sections.ensures.value
     ∙ ap (past_behind n c.args.tables.now.sections (tail_of found)) (input-is c) in
-    ap (λ k. keeps k new.sections (tail_of new)) c.pass.ensures.channels
-    ∙ ap (λ k. keeps n k (tail_of new)) c.pass.ensures.sections
+    ap (λ k. keeps k new.sections (tail_of new)) c.pass.ensures.fit.channels
+    ∙ ap (λ k. keeps n k (tail_of new)) c.pass.ensures.fit.sections
     ∙ ap (keeps n found.sections) tail
     ∙ sym (done c).kept

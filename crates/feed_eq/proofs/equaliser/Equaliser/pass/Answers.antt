@@ -33,18 +33,24 @@ loop-at-preserved c =
     let first = pairs at d there in
     let all : length c.args.samples.now / n ≡ length samples / n = ap (λ k. k / n) (sym c.loop-at.auto.samples) in
     let eaten = eaten-all n (length c.args.samples.now / n) (get_or lasts at d) new samples first all c.eat.ensures.kept in
-    let input = pair-frames n (get_or lasts at c.index-lasts-at.result) c.samples.result.now (pairs at c.index-lasts-at.result there) c.samples.ensures.value
+    let input = pair-frames n (get_or lasts at c.index-lasts-at.result) c.samples.result.now (pairs at c.index-lasts-at.result there)
+    c.samples.ensures.value
     ∙ ap frames_kept (at-any lasts at c.index-lasts-at.result d there) in
     let e = c.index-lasts-at-in-loop-at-2.result in
-    let behind : get_or (set lasts at new) (at + 1) e ≡ get_or lasts (at + 1) e = get_or-set_other lasts at (at + 1) new e (λ same. absurd (omega (arith, same))) in
+    let behind : get_or (set lasts at new) (at + 1) e ≡ get_or lasts (at + 1) e = get_or-set_other lasts at (at + 1) new e
+    (λ same. absurd (omega (arith, same))) in
     let output : frames_of n c.samples-output.result.now ≡ frames_kept (get_or lasts (at + 1) d) =
-    pair-frames n (get_or lasts (at + 1) e) c.samples-output.result.now (pairs (at + 1) e next) (rw behind at c.samples-output.ensures.value)
+    pair-frames n (get_or lasts (at + 1) e) c.samples-output.result.now (pairs (at + 1) e next)
+    (rw behind at c.samples-output.ensures.value)
     ∙ ap frames_kept (at-any lasts (at + 1) e d next) in
-    let two : length c.samples-output.result.now ≡ 2 * n = c.samples-output.ensures.len ∙ rw behind (pair-samples n (get_or lasts (at + 1) e) (pairs (at + 1) e next)) in
+    let two : length c.samples-output.result.now ≡ 2 * n = c.samples-output.ensures.len
+    ∙ rw behind (pair-samples n (get_or lasts (at + 1) e) (pairs (at + 1) e next)) in
     let even : length samples % n ≡ 0 = ap (λ k. k % n) c.loop-at.auto.samples ∙ c.requires.whole_frames in
-    let made = frames-made n section c.samples.result.now c.samples-output.result.now samples c.pass.new.samples above two c.pass.ensures.samples in
+    let made = frames-made n section c.samples.result.now c.samples-output.result.now samples c.pass.new.samples above two
+    c.pass.ensures.samples in
     let goes = goes-on n at sections lasts new d none (frames_of n samples) (frames_of n c.pass.new.samples) above below room pairs
-    (made ∙ ap (λ list. section_on n section list (frames_of n c.samples-output.result.now) (frames_of n samples)) input ∙ ap (λ list. section_on n section (frames_kept (get_or lasts at d)) list (frames_of n samples)) output)
+    (made ∙ ap (λ list. section_on n section list (frames_of n c.samples-output.result.now) (frames_of n samples)) input
+    ∙ ap (λ list. section_on n section (frames_kept (get_or lasts at d)) list (frames_of n samples)) output)
     eaten in
     record {
       room = length-set lasts at new ∙ c.loop-at.invariant.room;
@@ -65,13 +71,16 @@ returns-clause-kept c =
     let end : c.loop-at.at ≡ length sections = omega (arith, c.loop-at-test.false, c.loop-at.auto.at-end) in
     let room : length sections < length lasts = omega (arith, c.loop-at.invariant.room, c.args.self.now.few, c.requires.count) in
     let all : length c.args.samples.now / n ≡ length samples / n = ap (λ k. k / n) (sym c.loop-at.auto.samples) in
-    let eaten = eaten-all n (length c.args.samples.now / n) (get_or lasts (length sections) d) new samples (c.loop-at.invariant.pairs (length sections) d room) all c.eat-2.ensures.kept in
+    let eaten = eaten-all n (length c.args.samples.now / n) (get_or lasts (length sections) d) new samples
+    (c.loop-at.invariant.pairs (length sections) d room) all c.eat-2.ensures.kept in
     ap (λ k. pair_frames (take (k + 1) (set lasts (length sections) new))) (sym c.requires.count)
     ∙ all-kept n sections lasts new d (frames_of n samples) room eaten
-    ∙ subst (λ at. pair_frames (take at lasts) ++ past_behind n (drop at sections) (pair_frames (window (length sections) at lasts)) (frames_of n samples) ≡ whole) end c.loop-at.invariant.kept
+    ∙ subst (λ at. pair_frames (take at lasts)
+    ++ past_behind n (drop at sections) (pair_frames (window (length sections) at lasts)) (frames_of n samples) ≡ whole) end
+    c.loop-at.invariant.kept
 
-pub returns-clause-samples : goal.returns-clause-samples
-returns-clause-samples c =
+pub returns-clause-made : goal.returns-clause-made
+returns-clause-made c =
     let n = c.args.self.now.channels in
     let sections = c.args.sections.now in
     let lasts = c.loop-at.lasts in
@@ -79,6 +88,11 @@ returns-clause-samples c =
     let whole = sections_on n sections (tail_of c.args.self.now) (frames_of n c.args.samples.now) in
     let end : c.loop-at.at ≡ length sections = omega (arith, c.loop-at-test.false, c.loop-at.auto.at-end) in
     let even : length samples % n ≡ 0 = ap (λ k. k % n) c.loop-at.auto.samples ∙ c.requires.whole_frames in
-    let left = subst (λ at. sections_on n (drop at sections) (pair_frames (window (length sections) at lasts)) (frames_of n samples) ≡ whole) end c.loop-at.invariant.left in
-    sym (interleaved-frames_of n samples even)
-    ∙ ap interleaved (sym (none-left n sections (pair_frames (window (length sections) (length sections) lasts)) (frames_of n samples)) ∙ left)
+    let left = subst (λ at. sections_on n (drop at sections) (pair_frames (window (length sections) at lasts)) (frames_of n samples) ≡
+    whole) end c.loop-at.invariant.left in
+    record {
+      len = c.loop-at.auto.samples;
+      samples = sym (interleaved-frames_of n samples even)
+          ∙ ap interleaved (sym (none-left n sections (pair_frames (window (length sections) (length sections) lasts))
+          (frames_of n samples)) ∙ left);
+    }

@@ -24,11 +24,24 @@ returns c =
     let here : channel ≡ 0 * n + channel = omega arith in
     let there : n + channel ≡ (0 + 1) * n + channel = omega arith in
     let shared : c.added-later.result ≡ added s.b2 s.a2 x y =
-    rw (to_z-of_z w32 s.b2 (coef-fits s.b2 c.requires.section.b2), to_z-of_z w32 s.a2 (coef-fits s.a2 c.requires.section.a2), to_z-of_z w32 x x_fits, to_z-of_z w32 y y_fits) at c.added-later.ensures.value in
+    rw (
+      to_z-of_z w32 s.b2 (coef-fits s.b2 c.requires.section.b2),
+      to_z-of_z w32 s.a2 (coef-fits s.a2 c.requires.section.a2),
+      to_z-of_z w32
+          x x_fits,
+      to_z-of_z w32 y y_fits,
+    ) at c.added-later.ensures.value in
     record {
-      next = (rw (to_z-of_z w64 c.added-later.result (sum-fits 2 c.added-later.result (omega arith) c.added-later.ensures.bound), to_z-of_z w32 x1 x1_fits, to_z-of_z w32 y1 y1_fits) at c.after.ensures.next)
-          ∙ ap (λ z. z +ℤ added s.b1 s.a1 x1 y1) (shared ∙ ap (λ p. added s.b2 s.a2 (get_or input p (pos 0)) (get_or output p (pos 0))) here)
-          ∙ ap (λ p. added_by n input output 0 channel s.b2 s.a2 +ℤ added s.b1 s.a1 (get_or input p (pos 0)) (get_or output p (pos 0))) there;
+      next = (rw (
+        to_z-of_z w64 c.added-later.result (sum-fits 2 c.added-later.result (omega arith) c.added-later.ensures.bound),
+        to_z-of_z
+            w32 x1 x1_fits,
+        to_z-of_z w32 y1 y1_fits,
+      ) at c.after.ensures.next)
+          ∙ ap (λ z. z +ℤ added s.b1 s.a1 x1 y1) (shared
+          ∙ ap (λ p. added s.b2 s.a2 (get_or input p (pos 0)) (get_or output p (pos 0))) here)
+          ∙ ap (λ p. added_by n input output 0 channel s.b2 s.a2 +ℤ added s.b1 s.a1 (get_or input p (pos 0)) (get_or output p (pos 0)))
+          there;
       later = (rw (to_z-of_z w32 x1 x1_fits, to_z-of_z w32 y1 y1_fits) at c.after.ensures.later)
           ∙ ap (λ p. added s.b2 s.a2 (get_or input p (pos 0)) (get_or output p (pos 0))) there;
     }

@@ -14,5 +14,7 @@ loop-channel-preserved c =
     let result_fits : FitsSigned w32 c.sample.result = search rules in
     let here : blend.here ≡ d - blend.next = omega (arith, blend.sum) in
     let is = to_z-of_z w32 c.sample.result result_fits ∙ simp to_z-of_z at c.sample.ensures
-    ∙ ap (λ w. floor_div (get_or c.args.frame.now l.channel (pos 0) *ℤ pos w +ℤ get_or c.args.next.now l.channel (pos 0) *ℤ pos blend.next) d) here in
-    put-sample (λ a b. floor_div (a *ℤ pos (d - blend.next) +ℤ b *ℤ pos blend.next) d) c.args.frame.now c.args.next.now l.output l.channel _ (omega arith) (omega arith) (omega arith) is l.invariant
+    ∙ ap (λ w. floor_div (get_or c.args.frame.now l.channel (pos 0) *ℤ pos w +ℤ get_or c.args.next.now l.channel (pos 0) *ℤ pos blend.next)
+    d) here in
+    put-sample (λ a b. floor_div (a *ℤ pos (d - blend.next) +ℤ b *ℤ pos blend.next) d) c.args.frame.now c.args.next.now l.output l.channel _
+    (omega arith) (omega arith) (omega arith) is l.invariant

@@ -12,4 +12,5 @@ returns c =
     let first = simp to_z-of_z at c.raised.ensures.value in
     let second = simp to_z-of_z at c.raised-2.ensures.value in
     to_z-of_z w32 c.lowered.result fits ∙ c.lowered.ensures ∙ ap (λ n. pos n -ℤ pos (2 ^ 31)) c.quotient.ensures
-    ∙ point-is c.args.sample c.args.next c.raised.result c.raised-2.result blend.here blend.next blend.whole.divisor (omega (arith, blend.whole.least)) blend.sum first second
+    ∙ point-is c.args.sample c.args.next c.raised.result c.raised-2.result blend.here blend.next blend.whole.divisor
+    (omega (arith, blend.whole.least)) blend.sum first second

@@ -19,7 +19,9 @@ loop-k-preserved g c =
     let long : l.k * given + given - l.k * given ≡ given = omega arith in
     let size : l.k * taken + taken - l.k * taken ≡ taken = omega arith in
     let is = c.put_frame.ensures ∙ ap (λ n. in_layout matrix.from matrix.to (take n (drop (l.k * taken) input))) size in
-    let length-is : (frame : Frame) → length (in_layout matrix.from matrix.to frame) ≡ given = λ frame. length-in_layout matrix.from matrix.to frame ∙ sym c.requires.given in
+    let length-is : (frame : Frame) → length (in_layout matrix.from matrix.to frame) ≡ given = λ frame. length-in_layout matrix.from
+    matrix.to frame ∙ sym c.requires.given in
     ap (λ n. put_mid (l.k * given) n l.output c.put_frame.new.output) long
-    ∙ put-more (in_layout matrix.from matrix.to) taken given l.k input c.args.output.now l.output c.put_frame.new.output (λ frame fits. length-is frame)
+    ∙ put-more (in_layout matrix.from matrix.to) taken given l.k input c.args.output.now l.output c.put_frame.new.output
+    (λ frame fits. length-is frame)
     (omega (arith, there, c.loop-k-test.true)) l.invariant is (ap length is ∙ length-is (take taken (drop (l.k * taken) input)))

@@ -17,11 +17,19 @@ loop-at-preserved c =
     let l = c.loop-at in
     let frame = c.args.frame.now in
     let row = get_or matrix.weights l.at [] in
-    let there : l.at < length (positions_of matrix.to) = omega (arith, c.loop-at-test.true, c.requires.output, length-positions matrix.to) in
+    let there : l.at < length (positions_of matrix.to) = omega (
+      arith,
+      c.loop-at-test.true,
+      c.requires.output,
+      length-positions
+          matrix.to,
+    ) in
     let target = get_or (positions_of matrix.to) l.at M in
     let fits : FitsSigned w32 c.gathered.result = search rules in
     let front = ap (λ n. take n row) c.requires.frame ∙ row-at matrix.from matrix.to matrix.weights l.at M matrix.table there in
-    filled-more (in_layout matrix.from matrix.to frame) l.output l.at _ (pos 0) (omega (arith, c.loop-at.auto.output, c.loop-at-test.true)) (omega (arith, there, length-in_layout matrix.from matrix.to frame, length-positions matrix.to))
+    filled-more (in_layout matrix.from matrix.to frame) l.output l.at _ (pos 0) (omega (arith, c.loop-at.auto.output, c.loop-at-test.true))
+    (omega (arith, there, length-in_layout matrix.from matrix.to frame, length-positions matrix.to))
     (to_z-of_z w32 c.gathered.result fits ∙ c.gathered.ensures ∙ ap (λ r. clamped 32 (floor_div (weighted_sum r frame) 65536)) front
-    ∙ row-gathers matrix.from matrix.to target frame ∙ sym (get_or-map (λ p. gathered matrix.from matrix.to p frame) (positions_of matrix.to) l.at M (pos 0) there))
+    ∙ row-gathers matrix.from matrix.to target frame
+    ∙ sym (get_or-map (λ p. gathered matrix.from matrix.to p frame) (positions_of matrix.to) l.at M (pos 0) there))
     l.invariant

@@ -28,20 +28,29 @@ returns-clause-frame c before was =
     let none : Table = record { src = 0; dst = 0; phases = 1; taps = 2; shift = 1; coefs = [] } in
     let there = table-there tables.list poly.table (λ table. table.taps ≡ taps) c.requires.filter in
     let below : poly.table < length c.list.result.now = omega (arith, there, ap length c.list.ensures.value) in
-    let read : filter ≡ get_or c.list.result.now poly.table none = get_or_read c.list.result.now poly.table filter below c.index-list-self.is none in
+    let read : filter ≡ get_or c.list.result.now poly.table none = get_or_read c.list.result.now poly.table filter below
+    c.index-list-self.is none in
     let found : filter ≡ table_at tables poly.table = read ∙ ap (λ tables. get_or tables poly.table none) c.list.ensures.value in
     let is : IsTable filter = rw found (c.list.ensures.limits.each poly.table none (omega (arith, there))) in
     let has : filter.taps ≡ taps = rw found (table-has tables.list poly.table (λ table. table.taps ≡ taps) none c.requires.filter) in
     let moved = eaten-on before (window_frames poly.window) now list poly.passed needed c.requires.order was c.eat.ensures.frames in
     let above : 0 < channels = omega (arith, poly.window.limits.least) in
-    let within : needed ≤ length list = omega (arith, length-frames_of channels c.args.input.now, frames-there channels (length c.args.input.now) needed above c.requires.there) in
+    let within : needed ≤ length list = omega (
+      arith,
+      length-frames_of channels c.args.input.now,
+      frames-there channels
+          (length c.args.input.now) needed above c.requires.there,
+    ) in
     c.put_frame.ensures
     ∙ ap (λ n. row_frame row.shift row.coefs.now n now) c.eat.ensures.channels
-    ∙ output-is filter taps channels point.whole.divisor point.parts c.row_at.result row.shift needed row.coefs.now before now list is has (window-taps c.eat.new.self ∙ c.eat.ensures.taps) within moved
+    ∙ output-is filter taps channels point.whole.divisor point.parts c.row_at.result row.shift needed row.coefs.now before now list is has
+    (window-taps c.eat.new.self ∙ c.eat.ensures.taps) within moved
     c.row_at.ensures.value c.row_at.ensures.there c.of-row.ensures.coefs c.of-row.ensures.shift
-    ∙ ap (λ table. filtered_frame table taps channels point.whole.divisor point.parts (λ a. stream_of channels (before ++ list) (pos (taps + needed) -ℤ pos (1 + taps / 2) +ℤ a))) found
+    ∙ ap (λ table. filtered_frame table taps channels point.whole.divisor point.parts
+    (λ a. stream_of channels (before ++ list) (pos (taps + needed) -ℤ pos (1 + taps / 2) +ℤ a))) found
 
 pub returns-clause-tail : goal.returns-clause-tail
 returns-clause-tail c before was =
     let poly = c.args.self.now in
-    eaten-on before (window_frames poly.window) (window_frames c.eat.new.self) (frames_of poly.window.channels c.args.input.now) poly.passed c.args.point.needed c.requires.order was c.eat.ensures.frames
+    eaten-on before (window_frames poly.window) (window_frames c.eat.new.self) (frames_of poly.window.channels c.args.input.now) poly.passed
+    c.args.point.needed c.requires.order was c.eat.ensures.frames

@@ -14,8 +14,10 @@ loop-channel-preserved c =
     let channel = c.loop-channel.channel in
     let f : ℕ → ℤ = λ n. scaled_down row.shift (weighted row.coefs.now (channel_in n frames)) in
     let fits : FitsSigned w32 c.sample.result = search rules in
-    let is : to_z w32 (of_z w32 c.sample.result) ≡ f channel = to_z-of_z w32 c.sample.result fits ∙ c.sample.ensures ∙ ap (λ list. scaled_down row.shift (weighted row.coefs.now list)) c.channel.ensures.value in
-    take_more_set c.loop-channel.output channel (to_z w32 (of_z w32 c.sample.result)) (omega (arith, c.loop-channel-test.true, c.requires.channels))
+    let is : to_z w32 (of_z w32 c.sample.result) ≡ f channel = to_z-of_z w32 c.sample.result fits ∙ c.sample.ensures
+    ∙ ap (λ list. scaled_down row.shift (weighted row.coefs.now list)) c.channel.ensures.value in
+    take_more_set c.loop-channel.output channel (to_z w32 (of_z w32 c.sample.result))
+    (omega (arith, c.loop-channel-test.true, c.requires.channels))
     ∙ ap (λ list. list ++ to_z w32 (of_z w32 c.sample.result) ∷ []) c.loop-channel.invariant
     ∙ ap (λ z. row_frame row.shift row.coefs.now channel frames ++ z ∷ []) is
     ∙ sym (map-range_with_len_more f 0 channel channel (omega arith))

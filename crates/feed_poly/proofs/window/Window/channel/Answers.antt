@@ -9,4 +9,5 @@ returns-clause-value c =
     let window = c.args.self.now in
     let at = c.args.channel * 128 + window.at in
     ap (λ list. take (at + window.taps - at) (drop at list)) c.deref.ensures.value
-    ∙ channel-is window.channels window.taps window.at c.args.channel (fixed_items window.samples) c.requires window.limits.most window.inside window.most (items-count window.samples ∙ window.size)
+    ∙ channel-is window.channels window.taps window.at c.args.channel (fixed_items window.samples) c.requires window.limits.most
+    window.inside window.most (items-count window.samples ∙ window.size)

@@ -25,21 +25,31 @@ put_frames-step-requires g c =
     let eaten = c.eaten-eaten.result in
     let given = c.given-given.result in
     let can : CanFeed (spec_of seen.method rate) c.args.tables.now pull.gain input pull.want c.args.output.now =
-    subst (λ found. CanBeFed (kept_by found seen.method seen.tail) c.args.tables.now pull.gain input pull.want c.args.output.now) c.in-Some.is c.requires in
-    let wide : pull.want * channels ≤ length c.args.output.now = subst (λ n. pull.want * n ≤ length c.args.output.now) (channels-given seen.method rate) can.room in
-    let few : eaten ≤ length input / channels = subst (λ n. eaten ≤ length input / n) c.channels.ensures.value c.eaten-eaten.ensures.within in
+    subst (λ found. CanBeFed (kept_by found seen.method seen.tail) c.args.tables.now pull.gain input pull.want c.args.output.now)
+    c.in-Some.is c.requires in
+    let wide : pull.want * channels ≤ length c.args.output.now = subst (λ n. pull.want * n ≤ length c.args.output.now)
+    (channels-given seen.method rate) can.room in
+    let few : eaten ≤ length input / channels = subst (λ n. eaten ≤ length input / n) c.channels.ensures.value
+    c.eaten-eaten.ensures.within in
     record {
       level = feeder.level fitted c.in-Some.is;
       rested = feeder.rested;
       filter = filter-is seen.method rate c.args.tables.now can.filter;
       room = omega (arith, wide, mul-le-mul_right {m = given} {n = pull.want} channels c.given-given.ensures.within);
-      there = omega (arith, mul-le-mul_right {m = eaten} {n = length input / channels} channels few, div-mul-le_self (length input) channels);
-      enough = given-eaten fitted.pace (length input / c.channels.result) pull.want eaten given c.eaten-eaten.ensures.value c.given-given.ensures.value;
+      there = omega (
+        arith,
+        mul-le-mul_right {m = eaten} {n = length input / channels} channels few,
+        div-mul-le_self (length input)
+            channels,
+      );
+      enough = given-eaten fitted.pace (length input / c.channels.result) pull.want eaten given c.eaten-eaten.ensures.value
+          c.given-given.ensures.value;
     }
 
 pub moved-fitted-requires-clause-bounds : goal.moved-fitted-requires-clause-bounds
 moved-fitted-requires-clause-bounds g c =
-    moved-within c.in-Some.fitted.pace (length c.args.input.now / c.channels.result) c.args.pull.want c.eaten-eaten.result c.given-given.result c.put_frames-step.result
+    moved-within c.in-Some.fitted.pace (length c.args.input.now / c.channels.result) c.args.pull.want c.eaten-eaten.result
+    c.given-given.result c.put_frames-step.result
     c.eaten-eaten.ensures.value c.given-given.ensures.value c.put_frames-step.ensures.step
 
 pub returns : goal.returns
@@ -55,17 +65,21 @@ returns g c =
     let step = c.put_frames-step.result in
     let input = c.args.input.now in
     let before : kept_of feeder ≡ kept_at fitted.pace method tail = ap (λ found. kept_by found method tail) c.in-Some.is in
-    let does : fed (kept_of feeder) tables c.args.pull.gain input c.args.pull.want ≡ turned method tables fitted.pace tail input eaten given =
+    let does : fed (kept_of feeder) tables c.args.pull.gain input c.args.pull.want ≡ turned method tables fitted.pace tail input eaten
+    given =
     ap (λ kept. fed kept tables c.args.pull.gain input c.args.pull.want) before
-    ∙ fed-is method fitted.pace tail tables c.args.pull.gain input c.args.pull.want c.channels.result eaten given (feeder.level fitted c.in-Some.is) c.channels.ensures.value
+    ∙ fed-is method fitted.pace tail tables c.args.pull.gain input c.args.pull.want c.channels.result eaten given
+    (feeder.level fitted c.in-Some.is) c.channels.ensures.value
     c.eaten-eaten.ensures.value c.given-given.ensures.value in
     let eaten_of : Turn → ℕ = λ turn. turn.eaten in
     let given_of : Turn → ℕ = λ turn. turn.given in
     let output_of : Turn → List ℤ = λ turn. written turn.frames c.args.output.now in
     let kept_in : Turn → Kept = λ turn. turn.kept in
-    let kept : kept_at c.moved-fitted.result (by.seen c.put_frames-step.new.interpolator).method (by.seen c.put_frames-step.new.interpolator).tail ≡ (turned method tables fitted.pace tail input eaten given).kept =
+    let kept : kept_at c.moved-fitted.result (by.seen c.put_frames-step.new.interpolator).method
+    (by.seen c.put_frames-step.new.interpolator).tail ≡ (turned method tables fitted.pace tail input eaten given).kept =
     ap (λ s. kept_at c.moved-fitted.result s (by.seen c.put_frames-step.new.interpolator).tail) c.put_frames-step.ensures.method
-    ∙ kept-is method fitted.pace c.moved-fitted.result tail (by.seen c.put_frames-step.new.interpolator).tail tables (frames_of (channels_by method) input) eaten given step (feeder.level fitted c.in-Some.is) c.put_frames-step.ensures.step
+    ∙ kept-is method fitted.pace c.moved-fitted.result tail (by.seen c.put_frames-step.new.interpolator).tail tables
+    (frames_of (channels_by method) input) eaten given step (feeder.level fitted c.in-Some.is) c.put_frames-step.ensures.step
     c.moved-fitted.ensures.rate c.moved-fitted.ensures.phase c.moved-fitted.ensures.ahead c.put_frames-step.ensures.tail in
     record {
       eaten = sym (ap eaten_of does);

@@ -1,5 +1,6 @@
 use Rattle.std.proofs.Common.{◌≡◌, ◌≤◌, ◌+◌, ◌-◌, ◌*◌, ◌/◌, ◌++◌, ℕ, ℤ, false, List, length, take, drop, All, refl, sym, ap, ◌∙◌, subst, arith}
 use Rattle.std.proofs.Math.Seq.{take-add}
+use Rattle.std.proofs.lemmas.Grind.{common_steps}
 use Rattle.std.proofs.lemmas.List.{take_all, length-append, length-drop, length-take-le}
 use Rattle.std.proofs.lemmas.List.Elements.{All-append, All-nil}
 use Rattle.pcm_num.specs.Limit.{FitsBits}
@@ -15,15 +16,11 @@ use Rattle.pcm_chain.specs.Chains.{plan_in, ChainStands}
 use Rattle.pcm_chain.specs.Gives.{filling_frames}
 use Rattle.pcm_chain.specs.Pulls.{Pulls}
 use Rattle.pcm_chain.specs.Pushes.{pushed_frames}
-use Rattle.pcm_chain.proofs.Counting.{rate-near}
 use Rattle.pcm_chain.proofs.Giving.{pulls-give, rest-frames}
 use Rattle.pcm_chain.proofs.Pulling.{end-taken, goes-on, no-silence-behind, nothing-pulled, put-end}
 use Rattle.pcm_chain.proofs.Pushing.{frames_of-bits, whole-samples}
 use Rattle.pcm_chain.proofs.Standing.{stands-fitted}
 use Rattle.pcm_chain.proofs.chain.ChainOf.give.Goals as goal
-
-pub block-block-requires-clause-near : goal.block-block-requires-clause-near
-block-block-requires-clause-near g c = rw c.rate.ensures.value (rate-near c.loop-asked.self.plan c.rate.ensures.fits)
 
 pub loop-asked-init : goal.loop-asked-init
 loop-asked-init g c =
@@ -33,7 +30,8 @@ loop-asked-init g c =
     let wide : c.channels-target.result ≡ channels_of plan.target = c.channels-target.ensures ∙ ap channels_of c.target.ensures in
     let wanted : length out / c.channels-target.result ≡ filling_frames plan out = ap (λ n. length out / n) wide in
     let layout : c.channels-source.result ≡ channels_of plan.source = c.channels-source.ensures ∙ ap channels_of c.source.ensures in
-    let frames : length samples / channels_of plan.source ≡ length samples / c.channels-source.result = ap (λ n. length samples / n) (sym layout) in
+    let frames : length samples / channels_of plan.source ≡ length samples / c.channels-source.result = ap (λ n. length samples / n)
+    (sym layout) in
     let can = c.requires.can in
     record {
       within = omega arith;
@@ -45,8 +43,10 @@ loop-asked-init g c =
       plan = refl;
       kinds = λ have. have;
       fitted = stands-fitted g.B.Feeder.kept c.args.tables.now c.args.self.now can.frames 0 can.given can.gives.stands;
-      fits = (let none : 0 * c.channels-source.result ≡ 0 = omega arith in subst (λ n. All (FitsBits 32) (take n samples)) (sym none) (All-nil (FitsBits 32)));
-      pulls = λ x given stands enough. nothing-pulled g.B.Feeder.kept c.args.tables.now unity false (pushed_frames plan samples) c.args.self.now x 0 given out stands (λ some. absurd (omega (arith, some)));
+      fits = (let none : 0 * c.channels-source.result ≡ 0 = omega arith in subst (λ n. All (FitsBits 32) (take n samples)) (sym none)
+          (All-nil (FitsBits 32)));
+      pulls = λ x given stands enough. nothing-pulled g.B.Feeder.kept c.args.tables.now unity false (pushed_frames plan samples)
+          c.args.self.now x 0 given out stands (λ some. absurd (omega (arith, some)));
     }
 
 pub give_block-eaten-requires-clause-waiting : goal.give_block-eaten-requires-clause-waiting
@@ -58,6 +58,16 @@ give_block-eaten-requires-clause-waiting g c =
     let layout : c.channels-source.result ≡ channels_of plan.source = c.channels-source.ensures ∙ ap channels_of c.source.ensures in
     let rest = rest-frames plan c.loop-asked.self.plan e c.channels-source.result samples h.plan layout (omega (arith, h.there, h.count)) in
     omega (arith, ap length rest, length-drop e (pushed_frames plan samples), h.count)
+
+pub give_block-eaten-requires-clause-can : goal.give_block-eaten-requires-clause-can
+give_block-eaten-requires-clause-can g c =
+    let h = c.loop-asked.invariant in
+    record {
+      fitted = h.fitted;
+      limits = record { left = omega arith; right = omega arith };
+      filters = rw h.plan c.requires.tables;
+      room = grind (arith, common_steps);
+    }
 
 pub loop-asked-preserved : goal.loop-asked-preserved
 loop-asked-preserved g c =
@@ -88,38 +98,50 @@ loop-asked-preserved g c =
       there = omega (arith, h.there, c.give_block-eaten.ensures.there);
       count = h.count;
       samples = h.samples;
-      plan = c.give_block-eaten.ensures.plan ∙ h.plan;
-      kinds = λ have. c.give_block-eaten.ensures.kinds (h.kinds have);
-      fitted = c.give_block-eaten.ensures.fitted;
+      plan = c.give_block-eaten.ensures.stays.plan ∙ h.plan;
+      kinds = λ have. c.give_block-eaten.ensures.stays.kinds (h.kinds have);
+      fitted = c.give_block-eaten.ensures.stays.fitted;
       fits = (let more : (e + r) * size ≡ e * size + r * size = omega arith in
           let same : take (r * channels_of mid.plan.source) piece ≡ take (r * size) (drop (e * size) samples) =
-          ap (λ (p : PlanSeen). take (r * channels_of p.source) piece) h.plan ∙ ap (λ n. take (r * n) piece) (sym layout) ∙ ap (take (r * size)) (end-taken (e * size) samples) in
+          ap (λ (p : PlanSeen). take (r * channels_of p.source) piece) h.plan ∙ ap (λ n. take (r * n) piece) (sym layout)
+          ∙ ap (take (r * size)) (end-taken (e * size) samples) in
           subst (All (FitsBits 32)) (sym (ap (λ k. take k samples) more ∙ take-add (e * size) (r * size) samples))
-          (All-append (FitsBits 32) (take (e * size) samples) (take (r * size) (drop (e * size) samples)) h.fits (subst (All (FitsBits 32)) same c.give_block-eaten.ensures.fits)));
+          (All-append (FitsBits 32) (take (e * size) samples) (take (r * size) (drop (e * size) samples)) h.fits
+          (subst (All (FitsBits 32)) same c.give_block-eaten.ensures.fits)));
       pulls = λ x given stands enough.
           let target = channels_of plan.target in
           let out = c.loop-asked.out in
-          let at : a * c.channels-target.result ≡ a * target = ap (λ n. a * n) (c.channels-target.ensures ∙ ap channels_of c.target.ensures) in
+          let at : a * c.channels-target.result ≡ a * target = ap (λ n. a * n)
+          (c.channels-target.ensures ∙ ap channels_of c.target.ensures) in
           let first = h.pulls x given stands enough in
-          let Waits : List Frame → Type 0 = λ list. (y : List Frame) (before : ℕ) → ChainStands kept tables mid y 0 before → need (rate_in_plan (plan_in mid)) (before + b) ≤ length y + length list
-          → Pulls kept tables unity false b list mid new y before (record { given = b; eaten = r }) (drop (a * target) out) c.give_block-eaten.new.out in
-          let Heard : List ℤ → Type 0 = λ list. (y : List Frame) (before : ℕ) → ChainStands kept tables mid y 0 before → need (rate_in_plan (plan_in mid)) (before + b) ≤ length y + length (pushed_frames (plan_in mid) piece)
-          → Pulls kept tables unity false b (pushed_frames (plan_in mid) piece) mid new y before (record { given = b; eaten = r }) list c.give_block-eaten.new.out in
+          let Waits : List Frame → Type 0 = λ list. (y : List Frame) (before : ℕ) → ChainStands kept tables mid y 0 before
+          → need (rate_in_plan (plan_in mid)) (before + b) ≤ length y + length list
+          → Pulls kept tables unity false b list mid new y before (record { given = b; eaten = r }) (drop (a * target) out)
+          c.give_block-eaten.new.out in
+          let Heard : List ℤ → Type 0 = λ list. (y : List Frame) (before : ℕ) → ChainStands kept tables mid y 0 before
+          → need (rate_in_plan (plan_in mid)) (before + b) ≤ length y + length (pushed_frames (plan_in mid) piece)
+          → Pulls kept tables unity false b (pushed_frames (plan_in mid) piece) mid new y before (record { given = b; eaten = r }) list
+          c.give_block-eaten.new.out in
           let part = end-taken (a * c.channels-target.result) out ∙ ap (λ n. drop n out) at in
-          let ends = put-end (a * c.channels-target.result) out c.give_block-eaten.new.out ∙ ap (λ n. take n out ++ c.give_block-eaten.new.out) at in
-          let grown = need_grows (rate_in_plan plan) (given + a + b) (given + length c.args.out.now / c.channels-target.result) (let ratio = ratio-in plan stands.fits in ratio.dst) (omega (arith, c.block-block.ensures.wanted, h.within)) in
+          let ends = put-end (a * c.channels-target.result) out c.give_block-eaten.new.out
+          ∙ ap (λ n. take n out ++ c.give_block-eaten.new.out) at in
+          let grown = need_grows (rate_in_plan plan) (given + a + b) (given + length c.args.out.now / c.channels-target.result)
+          (let ratio = ratio-in plan stands.fits in ratio.dst) (omega (arith, c.block-block.ensures.wanted, h.within)) in
           let needed = ap (λ (p : PlanSeen). need (rate_in_plan p) (given + a + b)) h.plan in
           let long = length-append x (take e all) in
           let front = length-take-le e all within in
-          subst (λ list. Pulls kept tables unity false (a + b) all old new x given (record { given = a + b; eaten = e + r }) c.args.out.now list) (sym ends)
-          (goes-on kept tables unity false a b all old mid new x given (record { given = a; eaten = e }) (record { given = b; eaten = r }) c.args.out.now out c.give_block-eaten.new.out (record {
+          subst (λ list. Pulls kept tables unity false (a + b) all old new x given (record { given = a + b; eaten = e + r }) c.args.out.now
+          list) (sym ends)
+          (goes-on kept tables unity false a b all old mid new x given (record { given = a; eaten = e }) (record { given = b; eaten = r })
+          c.args.out.now out c.give_block-eaten.new.out (record {
             full = refl;
             plan = h.plan;
             channels = All-append (λ (frame : Frame). length frame ≡ source) x all stands.frames (frames_of-channels source samples);
             is = stands.fits;
             pulled = first;
             next = λ behind past. subst Waits rest (subst Heard part c.give_block-eaten.ensures.gives) (x ++ take e all) (given + a)
-                (no-silence-behind kept tables all mid x given (record { given = a; eaten = e }) first.stands) (omega (arith, needed, grown, enough, long, front, left, within));
+                (no-silence-behind kept tables all mid x given (record { given = a; eaten = e }) first.stands)
+                (omega (arith, needed, grown, enough, long, front, left, within));
           }));
     }
 
@@ -138,7 +160,8 @@ returns-clause-fits g c =
     let count = ap (λ n. need rate (can.given + n)) h.wanted in
     let asked = ap (λ n. need rate (can.given + n)) all in
     let far = (h.pulls can.frames can.given can.gives.stands (omega (arith, can.enough, can.gives.exact, count, grown))).far.eaten in
-    let every : c.loop-asked.eaten ≡ length samples / c.channels-source.result = omega (arith, far, asked, can.enough, can.gives.exact, count, grown, h.count) in
+    let every : c.loop-asked.eaten ≡ length samples /
+    c.channels-source.result = omega (arith, far, asked, can.enough, can.gives.exact, count, grown, h.count) in
     let long = ap (λ n. c.loop-asked.eaten * n) layout in
     let whole : take (c.loop-asked.eaten * c.channels-source.result) samples ≡ samples =
     take_all (c.loop-asked.eaten * c.channels-source.result) samples (omega (arith, h.samples, long, ap (λ n. n * source) every)) in
@@ -158,8 +181,10 @@ returns-clause-gives g c x given exactly enough =
     let all : c.loop-asked.asked ≡ count = omega (arith, h.within, c.loop-asked-test.false, h.wanted) in
     let grown = need_grows rate given (given + count) (let ratio = ratio-in plan exactly.stands.fits in ratio.dst) (omega arith) in
     let needed = ap (λ n. need rate (given + n)) h.wanted in
-    let Stops : ℕ → Type 0 = λ n. Pulls kept c.args.tables.now unity false n input c.args.self.now c.loop-asked.self x given (record { given = n; eaten = c.loop-asked.eaten }) c.args.out.now c.loop-asked.out in
-    pulls-give kept c.args.tables.now count c.loop-asked.eaten input c.args.self.now c.loop-asked.self c.args.out.now c.loop-asked.out x given h.plan
+    let Stops : ℕ → Type 0 = λ n. Pulls kept c.args.tables.now unity false n input c.args.self.now c.loop-asked.self x given
+    (record { given = n; eaten = c.loop-asked.eaten }) c.args.out.now c.loop-asked.out in
+    pulls-give kept c.args.tables.now count c.loop-asked.eaten input c.args.self.now c.loop-asked.self c.args.out.now c.loop-asked.out x
+    given h.plan
     (h.fills ∙ ap (λ n. n * channels_of plan.target) h.wanted)
     (All-append (λ (frame : Frame). length frame ≡ source) x input exactly.stands.frames (frames_of-channels source samples)) exactly enough
     (subst Stops all (h.pulls x given exactly.stands (omega (arith, enough, exactly.exact, needed, grown))))

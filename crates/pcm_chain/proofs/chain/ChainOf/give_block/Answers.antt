@@ -14,35 +14,37 @@ use Rattle.pcm_chain.specs.Bits.{bits_left}
 use Rattle.pcm_chain.specs.Boxes.{kept_in}
 use Rattle.pcm_chain.specs.Feeds.{fed_through, AreFed}
 use Rattle.pcm_chain.specs.Pushes.{pushed_frames}
-use Rattle.pcm_chain.proofs.Counting.{rate-near, part-within, in_time-after}
+use Rattle.pcm_chain.proofs.Counting.{part-within, in_time-after}
 use Rattle.pcm_chain.proofs.Feeding.{fed-fits}
 use Rattle.pcm_chain.proofs.Giving.{block-gives, frames-within, sure-silent}
 use Rattle.pcm_chain.proofs.Pushing.{copied-frames, parted-frames}
 use Rattle.pcm_chain.proofs.chain.ChainOf.give_block.Goals as goal
 
-pub advance-advance-requires-clause-near : goal.advance-advance-requires-clause-near
-advance-advance-requires-clause-near g c = rw c.rate-rate.ensures.value (rate-near c.args.self.now.plan c.rate-rate.ensures.fits)
-
-pub after-self-requires-clause-near : goal.after-self-requires-clause-near
-after-self-requires-clause-near g c = rw c.rate-rate.ensures.value (rate-near c.args.self.now.plan c.rate-rate.ensures.fits)
-
 pub after-self-requires-clause-in_time : goal.after-self-requires-clause-in_time
 after-self-requires-clause-in_time g c =
-    in_time-after c.rate-rate.result false c.args.self.now.counts _ c.args.want c.advance-advance.result c.rate-rate.ensures.ratio (rw c.rate-rate.ensures.value c.args.self.now.bounded.in_time) c.advance-advance.ensures.goes
+    in_time-after c.rated_counts-counts.result.rate false c.rated_counts-counts.result.counts _ c.args.want c.advance-advance.result
+    c.rated_counts-counts.result.near.ratio c.rated_counts-counts.result.bounded.in_time c.advance-advance.ensures.goes
 
 pub after-self-requires-clause-within : goal.after-self-requires-clause-within
 after-self-requires-clause-within g c =
-    let whole = ap (λ (r : Rate). r.dst) c.rate-rate.ensures.value in
-    part-within c.rate-rate.result.dst c.period.result.1 c.period.ensures.same.factor c.rate-rate.ensures.ratio.dst (whole ∙ c.period.ensures.same.dst_is)
+    let whole = ap (λ (r : Rate). r.dst) c.rated_counts-counts.ensures.rate in
+    part-within c.rated_counts-counts.result.rate.dst c.period.result.1
+    c.period.ensures.same.factor c.rated_counts-counts.result.near.ratio.dst (whole ∙ c.period.ensures.same.dst_is)
 
-pub returns-clause-fitted : goal.returns-clause-fitted
-returns-clause-fitted g c =
+pub returns-clause-stays : goal.returns-clause-stays
+returns-clause-stays g c =
     let kept = g.B.Feeder.kept in
-    let is = c.rate-rate.ensures.fits in
+    let is = c.rated_counts-counts.ensures.fits in
     let source = c.channels-source.result in
     let plan = c.args.self.now.plan in
-    fed-fits (kept_in kept c.args.self.now.boxes) (kept_in kept c.feed_stages.new.boxes) c.args.tables.now unity c.args.want plan.stages source (channels_of plan.target) _ is.specs c.requires.fitted
-    (rw (c.channels-source.ensures, c.source.ensures) is.follow) (frames_of-channels source _) (rw c.stages.ensures.value at c.feed_stages.ensures.gone.fed)
+    record {
+      plan = refl;
+      kinds = c.feed_stages.ensures.kinds;
+      fitted = fed-fits (kept_in kept c.args.self.now.boxes) (kept_in kept c.feed_stages.new.boxes) c.args.tables.now unity c.args.want
+          plan.stages source (channels_of plan.target) _ is.specs c.requires.can.fitted
+          (rw (c.channels-source.ensures, c.source.ensures) is.follow) (frames_of-channels source _)
+          (rw c.stages.ensures.value at c.feed_stages.ensures.gone.fed);
+    }
 
 pub slice_bounds-copy-end : goal.slice_bounds-copy-end
 slice_bounds-copy-end g c =
@@ -55,7 +57,8 @@ slice_bounds-copy-end g c =
 
 pub returns-clause-fits : goal.returns-clause-fits
 returns-clause-fits g c =
-    let layout : c.channels-source.result ≡ channels_of c.args.self.now.plan.source = c.channels-source.ensures ∙ ap channels_of c.source.ensures in
+    let layout : c.channels-source.result ≡ channels_of c.args.self.now.plan.source = c.channels-source.ensures
+    ∙ ap channels_of c.source.ensures in
     subst (λ n. All (FitsBits 32) (take (c.advance-advance.result.eaten * n) c.args.input.now)) layout c.copy.ensures.fits
 
 pub returns-clause-gives : goal.returns-clause-gives
@@ -72,22 +75,29 @@ returns-clause-gives g c x given stands enough =
     let goes = rw c.requires.waiting at c.advance-advance.ensures.goes in
     let within : advance.eaten ≤ length waiting = omega (arith, c.advance-advance.ensures.there, c.requires.waiting) in
     let room : advance.eaten * width ≤ length samples = frames-within width advance.eaten samples within in
-    let loaded = subst (λ n. take (length (take (advance.eaten * n) samples)) (fixed_items c.copy.new.self.now) ≡ take (advance.eaten * n) samples) layout c.copy.ensures.loaded in
-    let input = copied-frames width advance.eaten c.channels-source.result (take (advance.eaten * width) samples) (fixed_items c.copy.new.self.now) layout (length-take-le (advance.eaten * width) samples room) loaded in
-    let quiet = sure-silent c.rate-rate.result old.counts (length waiting) c.args.want advance c.rate-rate.ensures.ratio goes in
+    let loaded = subst (λ n. take (length (take (advance.eaten * n) samples)) (fixed_items c.copy.new.self.now) ≡ take (advance.eaten * n)
+    samples) layout c.copy.ensures.loaded in
+    let input = copied-frames width advance.eaten c.channels-source.result (take (advance.eaten * width) samples)
+    (fixed_items c.copy.new.self.now) layout (length-take-le (advance.eaten * width) samples room) loaded in
+    let quiet = sure-silent c.rated_counts-counts.result.rate c.rated_counts-counts.result.counts (length waiting) c.args.want advance
+    c.rated_counts-counts.result.near.ratio goes in
     let input_is = input ∙ (parted-frames width advance.eaten samples above room).0
     ∙ sym (append-nil (take advance.eaten waiting))
     ∙ ap (λ n. take advance.eaten waiting ++ replicate n (silence width)) (sym quiet) in
-    let Fed : List Frame → Type 0 = λ list. AreFed (kept_in kept old.boxes) (kept_in kept c.feed_stages.new.boxes) c.args.tables.now unity c.args.want plan.stages list in
+    let Fed : List Frame → Type 0 = λ list. AreFed (kept_in kept old.boxes) (kept_in kept c.feed_stages.new.boxes) c.args.tables.now unity
+    c.args.want plan.stages list in
     block-gives kept c.args.tables.now c.args.want waiting old _ advance c.args.out.now c.feed_stages.new.out x given (record {
       plan = refl;
       bounded = old.bounded;
-      goes = rw c.rate-rate.ensures.value at goes;
+      goes = rw (c.rated_counts-counts.ensures.rate, c.rated_counts-counts.ensures.counts) at goes;
       within = within;
-      counts = rw c.rate-rate.ensures.value at c.after-self.ensures.stands;
+      counts = rw (c.rated_counts-counts.ensures.rate, c.rated_counts-counts.ensures.counts) at c.after-self.ensures.stands;
       have = frames_of-channels width samples;
       fed = subst Fed input_is (rw c.stages.ensures.value at c.feed_stages.ensures.gone.fed);
-      bits = subst (λ list. HaveBits (bits_left plan.stages) (fed_through (kept_in kept old.boxes) c.args.tables.now unity c.args.want plan.stages list)) input_is (rw c.stages.ensures.value at c.feed_stages.ensures.gone.bits);
+      bits = subst (λ list. HaveBits (bits_left plan.stages)
+          (fed_through (kept_in kept old.boxes) c.args.tables.now unity c.args.want plan.stages list)) input_is
+          (rw c.stages.ensures.value at c.feed_stages.ensures.gone.bits);
       out = (rw c.stages.ensures.value at c.feed_stages.ensures.gone.out)
-          ∙ ap (λ list. written (fed_through (kept_in kept old.boxes) c.args.tables.now unity c.args.want plan.stages list) c.args.out.now) input_is;
+          ∙ ap (λ list. written (fed_through (kept_in kept old.boxes) c.args.tables.now unity c.args.want plan.stages list) c.args.out.now)
+          input_is;
     }) stands enough

@@ -10,13 +10,9 @@ use Rattle.pcm_feeder.proofs.Frames.{frames_of-channels}
 use Rattle.pcm_plan.specs.Plans.{PlanSeen}
 use Rattle.pcm_chain.specs.Chains.{plan_in, ChainStands}
 use Rattle.pcm_chain.specs.Pulls.{waiting_frames, IsPastTheEnd, Pulls}
-use Rattle.pcm_chain.proofs.Counting.{rate-near}
 use Rattle.pcm_chain.proofs.Pulling.{nothing-pulled, put-end, end-taken, goes-on, falls-short}
 use Rattle.pcm_chain.proofs.Waiting.{waiting-count, waiting-drop}
 use Rattle.pcm_chain.proofs.chain.ChainOf.pull.Goals as goal
-
-pub block-block-requires-clause-near : goal.block-block-requires-clause-near
-block-block-requires-clause-near g c = rw c.rate.ensures.value (rate-near c.loop-asked.self.plan c.rate.ensures.fits)
 
 pub returns-after-loop-asked-clause-pulls : goal.returns-after-loop-asked-clause-pulls
 returns-after-loop-asked-clause-pulls g c x quiet before stands past =
@@ -28,8 +24,10 @@ returns-after-loop-asked-clause-pulls g c x quiet before stands past =
 pub returns-else-pulled-asked-clause-pulls : goal.returns-else-pulled-asked-clause-pulls
 returns-else-pulled-asked-clause-pulls g c x quiet before stands past =
     let h = c.loop-asked.invariant in
-    falls-short g.B.Feeder.kept c.args.tables.now c.args.gain c.args.ended c.loop-asked.asked c.args.want (waiting_frames c.args.self.now.plan c.args.format c.args.ring.now.bytes) c.args.self.now c.loop-asked.self x before
-    c.loop-asked.pulled c.args.out.now c.loop-asked.out stands.fits (omega (arith, h.most, c.if-pulled-asked.false)) h.within (h.pulls x quiet before stands past)
+    falls-short g.B.Feeder.kept c.args.tables.now c.args.gain c.args.ended c.loop-asked.asked c.args.want
+    (waiting_frames c.args.self.now.plan c.args.format c.args.ring.now.bytes) c.args.self.now c.loop-asked.self x before
+    c.loop-asked.pulled c.args.out.now c.loop-asked.out stands.fits (omega (arith, h.most, c.if-pulled-asked.false)) h.within
+    (h.pulls x quiet before stands past)
 
 pub loop-asked-init : goal.loop-asked-init
 loop-asked-init g c =
@@ -40,14 +38,16 @@ loop-asked-init g c =
       within = omega arith;
       most = omega arith;
       there = omega arith;
-      waiting = waiting-count plan c.args.format bytes c.source.result c.fill.result c.channels.result c.bytes.result c.fill.ensures.count c.channels.ensures c.source.ensures c.bytes.ensures;
+      waiting = waiting-count plan c.args.format bytes c.source.result c.fill.result c.channels.result c.bytes.result c.fill.ensures.count
+          c.channels.ensures c.source.ensures c.bytes.ensures;
       plan = refl;
       kinds = λ have. have;
       fitted = c.requires.fitted;
       bytes = ap (λ n. drop n bytes) none;
       size = refl;
       room = refl;
-      pulls = λ x quiet before stands past. nothing-pulled g.B.Feeder.kept c.args.tables.now c.args.gain c.args.ended (waiting_frames plan c.args.format bytes) c.args.self.now x quiet before c.args.out.now stands past;
+      pulls = λ x quiet before stands past. nothing-pulled g.B.Feeder.kept c.args.tables.now c.args.gain c.args.ended
+          (waiting_frames plan c.args.format bytes) c.args.self.now x quiet before c.args.out.now stands past;
     }
 
 pub pull_block-more-requires-clause-waiting : goal.pull_block-more-requires-clause-waiting
@@ -55,7 +55,8 @@ pull_block-more-requires-clause-waiting g c =
     let h = c.loop-asked.invariant in
     let plan = c.args.self.now.plan in
     let all = waiting_frames plan c.args.format c.args.ring.now.bytes in
-    let rest = ap (λ (p : PlanSeen). waiting_frames p c.args.format c.loop-asked.ring.bytes) h.plan ∙ ap (waiting_frames plan c.args.format) h.bytes
+    let rest = ap (λ (p : PlanSeen). waiting_frames p c.args.format c.loop-asked.ring.bytes) h.plan
+    ∙ ap (waiting_frames plan c.args.format) h.bytes
     ∙ waiting-drop plan c.args.format c.args.ring.now.bytes c.loop-asked.pulled.eaten (omega (arith, h.there, h.waiting)) in
     omega (arith, h.waiting, ap length rest, length-drop c.loop-asked.pulled.eaten all)
 
@@ -69,39 +70,50 @@ loop-asked-preserved g c =
     let all = waiting_frames plan c.args.format bytes in
     let first = c.loop-asked.pulled in
     let more = c.pull_block-more.result in
-    let rest = ap (λ (p : PlanSeen). waiting_frames p c.args.format c.loop-asked.ring.bytes) h.plan ∙ ap (waiting_frames plan c.args.format) h.bytes
+    let rest = ap (λ (p : PlanSeen). waiting_frames p c.args.format c.loop-asked.ring.bytes) h.plan
+    ∙ ap (waiting_frames plan c.args.format) h.bytes
     ∙ waiting-drop plan c.args.format bytes first.eaten (omega (arith, h.there, h.waiting)) in
     let place : first.eaten * size + more.eaten * size ≡ (first.eaten + more.eaten) * size = omega arith in
     record {
       within = omega (arith, c.block-block.ensures.wanted, h.within);
-      most = omega (arith, h.most, c.pull_block-more.ensures.most);
+      most = omega (arith, h.most, c.pull_block-more.ensures.leaves.most);
       there = omega (arith, h.there, c.pull_block-more.ensures.there);
       waiting = h.waiting;
-      plan = c.pull_block-more.ensures.plan ∙ h.plan;
-      kinds = λ have. c.pull_block-more.ensures.kinds (h.kinds have);
-      fitted = c.pull_block-more.ensures.fitted;
-      bytes = ap (λ (ring : Ring). ring.bytes) c.pull_block-more.ensures.ring
+      plan = c.pull_block-more.ensures.leaves.stays.plan ∙ h.plan;
+      kinds = λ have. c.pull_block-more.ensures.leaves.stays.kinds (h.kinds have);
+      fitted = c.pull_block-more.ensures.leaves.stays.fitted;
+      bytes = ap (λ (ring : Ring). ring.bytes) c.pull_block-more.ensures.leaves.ring
           ∙ ap (λ (p : PlanSeen). drop (more.eaten * (channels_of p.source * bytes_of c.args.format)) c.loop-asked.ring.bytes) h.plan
           ∙ ap (drop (more.eaten * size)) h.bytes ∙ drop-drop (more.eaten * size) (first.eaten * size) bytes ∙ ap (λ n. drop n bytes) place;
-      size = ap (λ (ring : Ring). ring.size) c.pull_block-more.ensures.ring ∙ h.size;
-      room = ap (λ (ring : Ring). ring.max) c.pull_block-more.ensures.ring ∙ h.room;
+      size = ap (λ (ring : Ring). ring.size) c.pull_block-more.ensures.leaves.ring ∙ h.size;
+      room = ap (λ (ring : Ring). ring.max) c.pull_block-more.ensures.leaves.ring ∙ h.room;
       pulls = λ x quiet before stands past.
-          let at : c.loop-asked.asked * c.channels-channels.result ≡ c.loop-asked.asked * channels_of plan.target = ap (λ n. c.loop-asked.asked * n) (c.channels-channels.ensures ∙ ap channels_of c.target.ensures) in
-          let Waits : List Frame → Type 0 = λ list. (y : List Frame) (silent given : ℕ) → ChainStands kept c.args.tables.now c.loop-asked.self y silent given → IsPastTheEnd c.args.ended silent list
-          → Pulls kept c.args.tables.now c.args.gain c.args.ended c.block-block.result list c.loop-asked.self c.pull_block-more.new.self y given more (drop (c.loop-asked.asked * channels_of plan.target) c.loop-asked.out) c.pull_block-more.new.out in
+          let at : c.loop-asked.asked * c.channels-channels.result ≡ c.loop-asked.asked * channels_of plan.target = ap
+          (λ n. c.loop-asked.asked * n) (c.channels-channels.ensures ∙ ap channels_of c.target.ensures) in
+          let Waits : List Frame → Type 0 = λ list. (y : List Frame) (silent given : ℕ)
+          → ChainStands kept c.args.tables.now c.loop-asked.self y silent given → IsPastTheEnd c.args.ended silent list
+          → Pulls kept c.args.tables.now c.args.gain c.args.ended c.block-block.result list c.loop-asked.self c.pull_block-more.new.self y
+          given more (drop (c.loop-asked.asked * channels_of plan.target) c.loop-asked.out) c.pull_block-more.new.out in
           let part = end-taken (c.loop-asked.asked * c.channels-channels.result) c.loop-asked.out ∙ ap (λ n. drop n c.loop-asked.out) at in
-          let Heard : List ℤ → Type 0 = λ out. (y : List Frame) (silent given : ℕ) → ChainStands kept c.args.tables.now c.loop-asked.self y silent given
+          let Heard : List ℤ → Type 0 = λ out. (y : List Frame) (silent given : ℕ)
+          → ChainStands kept c.args.tables.now c.loop-asked.self y silent given
           → IsPastTheEnd c.args.ended silent (waiting_frames (plan_in c.loop-asked.self) c.args.format c.loop-asked.ring.bytes)
-          → Pulls kept c.args.tables.now c.args.gain c.args.ended c.block-block.result (waiting_frames (plan_in c.loop-asked.self) c.args.format c.loop-asked.ring.bytes) c.loop-asked.self c.pull_block-more.new.self y given more out c.pull_block-more.new.out in
-          let ends = put-end (c.loop-asked.asked * c.channels-channels.result) c.loop-asked.out c.pull_block-more.new.out ∙ ap (λ n. take n c.loop-asked.out ++ c.pull_block-more.new.out) at in
-          let Ends : List ℤ → Type 0 = Pulls kept c.args.tables.now c.args.gain c.args.ended (c.loop-asked.asked + c.block-block.result) all c.args.self.now c.pull_block-more.new.self x before
+          → Pulls kept c.args.tables.now c.args.gain c.args.ended c.block-block.result
+          (waiting_frames (plan_in c.loop-asked.self) c.args.format c.loop-asked.ring.bytes) c.loop-asked.self
+          c.pull_block-more.new.self y given more out c.pull_block-more.new.out in
+          let ends = put-end (c.loop-asked.asked * c.channels-channels.result) c.loop-asked.out c.pull_block-more.new.out
+          ∙ ap (λ n. take n c.loop-asked.out ++ c.pull_block-more.new.out) at in
+          let Ends : List ℤ → Type 0 = Pulls kept c.args.tables.now c.args.gain c.args.ended (c.loop-asked.asked + c.block-block.result) all
+          c.args.self.now c.pull_block-more.new.self x before
           (record { given = first.given + more.given; eaten = first.eaten + more.eaten }) c.args.out.now in
           subst Ends (sym ends)
-          (goes-on kept c.args.tables.now c.args.gain c.args.ended c.loop-asked.asked c.block-block.result all c.args.self.now c.loop-asked.self c.pull_block-more.new.self x before first more
+          (goes-on kept c.args.tables.now c.args.gain c.args.ended c.loop-asked.asked c.block-block.result all c.args.self.now
+          c.loop-asked.self c.pull_block-more.new.self x before first more
           c.args.out.now c.loop-asked.out c.pull_block-more.new.out (record {
             full = c.if-pulled-asked.true;
             plan = h.plan;
-            channels = All-append (λ (frame : Frame). length frame ≡ channels_of plan.source) x all stands.frames (frames_of-channels (channels_of plan.source) (samples c.args.format bytes));
+            channels = All-append (λ (frame : Frame). length frame ≡ channels_of plan.source) x all stands.frames
+                (frames_of-channels (channels_of plan.source) (samples c.args.format bytes));
             is = stands.fits;
             pulled = h.pulls x quiet before stands past;
             next = subst Waits rest (subst Heard part c.pull_block-more.ensures.pulls) (x ++ take first.eaten all) _ (before + first.given);

@@ -14,54 +14,63 @@ use Rattle.pcm_chain.specs.Bits.{bits_left}
 use Rattle.pcm_chain.specs.Boxes.{kept_in}
 use Rattle.pcm_chain.specs.Feeds.{fed_through, AreFed}
 use Rattle.pcm_chain.specs.Pulls.{waiting_frames}
-use Rattle.pcm_chain.proofs.Counting.{rate-near, part-within, goes-level, in_time-after}
+use Rattle.pcm_chain.proofs.Counting.{part-within, goes-level, in_time-after}
 use Rattle.pcm_chain.proofs.Feeding.{fed-fits}
 use Rattle.pcm_chain.proofs.Pulling.{block-pulls}
 use Rattle.pcm_chain.proofs.Waiting.{bytes-wait, loaded-frames}
 use Rattle.pcm_chain.proofs.chain.ChainOf.pull_block.Goals as goal
 
-pub advance-advance-requires-clause-near : goal.advance-advance-requires-clause-near
-advance-advance-requires-clause-near g c = rw c.rate-rate.ensures.value (rate-near c.args.self.now.plan c.rate-rate.ensures.fits)
-
-pub after-self-requires-clause-near : goal.after-self-requires-clause-near
-after-self-requires-clause-near g c = rw c.rate-rate.ensures.value (rate-near c.args.self.now.plan c.rate-rate.ensures.fits)
-
 pub feed_stages-requires-clause-level : goal.feed_stages-requires-clause-level
 feed_stages-requires-clause-level g c level =
-    goes-level c.rate-rate.result c.args.ended c.args.self.now.counts _ c.args.want c.advance-advance.result (c.rate-rate.ensures.value ∙ rw c.stages.ensures.value at level) c.advance-advance.ensures.goes
+    goes-level c.rated_counts-counts.result.rate c.args.ended c.rated_counts-counts.result.counts _ c.args.want c.advance-advance.result
+    (c.rated_counts-counts.ensures.rate ∙ rw c.stages.ensures.value at level) c.advance-advance.ensures.goes
 
 pub after-self-requires-clause-in_time : goal.after-self-requires-clause-in_time
 after-self-requires-clause-in_time g c =
-    in_time-after c.rate-rate.result c.args.ended c.args.self.now.counts _ c.args.want c.advance-advance.result c.rate-rate.ensures.ratio (rw c.rate-rate.ensures.value c.args.self.now.bounded.in_time) c.advance-advance.ensures.goes
+    in_time-after c.rated_counts-counts.result.rate c.args.ended c.rated_counts-counts.result.counts _ c.args.want c.advance-advance.result
+    c.rated_counts-counts.result.near.ratio c.rated_counts-counts.result.bounded.in_time c.advance-advance.ensures.goes
 
 pub after-self-requires-clause-within : goal.after-self-requires-clause-within
 after-self-requires-clause-within g c =
-    let whole = ap (λ (r : Rate). r.dst) c.rate-rate.ensures.value in
-    part-within c.rate-rate.result.dst c.period.result.1 c.period.ensures.same.factor c.rate-rate.ensures.ratio.dst (whole ∙ c.period.ensures.same.dst_is)
-
-pub returns-clause-fitted : goal.returns-clause-fitted
-returns-clause-fitted g c =
-    let kept = g.B.Feeder.kept in
-    let is = c.rate-rate.ensures.fits in
-    let source = c.channels-source.result in
-    let plan = c.args.self.now.plan in
-    fed-fits (kept_in kept c.args.self.now.boxes) (kept_in kept c.feed_stages.new.boxes) c.args.tables.now c.args.gain c.args.want plan.stages source (channels_of plan.target) _ is.specs c.requires.fitted
-    (rw (c.channels-source.ensures, c.source.ensures) is.follow) (frames_of-channels source _) (rw c.stages.ensures.value at c.feed_stages.ensures.gone.fed)
+    let whole = ap (λ (r : Rate). r.dst) c.rated_counts-counts.ensures.rate in
+    part-within c.rated_counts-counts.result.rate.dst c.period.result.1 c.period.ensures.same.factor
+    c.rated_counts-counts.result.near.ratio.dst (whole ∙ c.period.ensures.same.dst_is)
 
 pub load-requires-clause-waiting : goal.load-requires-clause-waiting
 load-requires-clause-waiting g c =
     let plan = c.args.self.now.plan in
     let n = c.advance-advance.result.eaten in
-    let width = mul_assoc n c.channels-source.result (bytes_of c.args.format) ∙ ap (λ k. n * (k * bytes_of c.args.format)) (c.channels-source.ensures ∙ ap channels_of c.source.ensures) in
-    omega (arith, width, bytes-wait plan c.args.format c.args.ring.now.bytes n (omega (arith, c.advance-advance.ensures.there, c.requires.waiting)))
+    let width = mul_assoc n c.channels-source.result (bytes_of c.args.format)
+    ∙ ap (λ k. n * (k * bytes_of c.args.format)) (c.channels-source.ensures ∙ ap channels_of c.source.ensures) in
+    omega (
+      arith,
+      width,
+      bytes-wait plan c.args.format c.args.ring.now.bytes n
+          (omega (arith, c.advance-advance.ensures.there, c.requires.waiting)),
+    )
 
-pub returns-clause-ring : goal.returns-clause-ring
-returns-clause-ring g c =
+pub returns-clause-leaves : goal.returns-clause-leaves
+returns-clause-leaves g c =
+    let kept = g.B.Feeder.kept in
+    let is = c.rated_counts-counts.ensures.fits in
+    let source = c.channels-source.result in
     let plan = c.args.self.now.plan in
     let n = c.advance-advance.result.eaten in
     let bytes = c.args.ring.now.bytes in
-    let width = mul_assoc n c.channels-source.result (bytes_of c.args.format) ∙ ap (λ k. n * (k * bytes_of c.args.format)) (c.channels-source.ensures ∙ ap channels_of c.source.ensures) in
-    c.load.ensures.ring ∙ ap (λ k. let left : Ring = record c.args.ring.now { bytes = drop k bytes } in left) width
+    let width = mul_assoc n source (bytes_of c.args.format)
+    ∙ ap (λ k. n * (k * bytes_of c.args.format)) (c.channels-source.ensures ∙ ap channels_of c.source.ensures) in
+    record {
+      stays = record {
+        plan = refl;
+        kinds = c.feed_stages.ensures.kinds;
+        fitted = fed-fits (kept_in kept c.args.self.now.boxes) (kept_in kept c.feed_stages.new.boxes) c.args.tables.now c.args.gain
+            c.args.want plan.stages source (channels_of plan.target) _ is.specs c.requires.can.fitted
+            (rw (c.channels-source.ensures, c.source.ensures) is.follow) (frames_of-channels source _)
+            (rw c.stages.ensures.value at c.feed_stages.ensures.gone.fed);
+      };
+      most = c.advance-advance.ensures.given;
+      ring = c.load.ensures.ring ∙ ap (λ k. let left : Ring = record c.args.ring.now { bytes = drop k bytes } in left) width;
+    }
 
 pub returns-clause-pulls : goal.returns-clause-pulls
 returns-clause-pulls g c x quiet before stands past =
@@ -73,18 +82,28 @@ returns-clause-pulls g c x quiet before stands past =
     let waiting = waiting_frames plan c.args.format bytes in
     let layout = c.channels-source.ensures ∙ ap channels_of c.source.ensures in
     let within : advance.eaten ≤ length waiting = omega (arith, c.advance-advance.ensures.there, c.requires.waiting) in
-    let input = loaded-frames plan c.args.format bytes advance.eaten advance.silent source (fixed_items c.load.new.self.now) layout within c.load.ensures.loaded in
+    let input = loaded-frames plan c.args.format bytes advance.eaten advance.silent source (fixed_items c.load.new.self.now) layout within
+    c.load.ensures.loaded in
     let input_is = input ∙ ap (λ n. take advance.eaten waiting ++ replicate advance.silent (silence n)) layout in
-    let Fed : List Frame → Type 0 = λ list. AreFed (kept_in kept c.args.self.now.boxes) (kept_in kept c.feed_stages.new.boxes) c.args.tables.now c.args.gain c.args.want plan.stages list in
-    block-pulls kept c.args.tables.now c.args.gain c.args.ended c.args.want waiting c.args.self.now _ advance c.args.out.now c.feed_stages.new.out x quiet before (record {
+    let Fed : List Frame → Type 0 = λ list. AreFed (kept_in kept c.args.self.now.boxes) (kept_in kept c.feed_stages.new.boxes)
+    c.args.tables.now c.args.gain c.args.want plan.stages list in
+    block-pulls kept c.args.tables.now c.args.gain c.args.ended c.args.want waiting c.args.self.now _ advance c.args.out.now
+    c.feed_stages.new.out x quiet before (record {
       plan = refl;
       bounded = c.args.self.now.bounded;
-      goes = rw (c.requires.waiting, c.rate-rate.ensures.value) at c.advance-advance.ensures.goes;
+      goes = rw (
+        c.requires.waiting,
+        c.rated_counts-counts.ensures.rate,
+        c.rated_counts-counts.ensures.counts,
+      ) at c.advance-advance.ensures.goes;
       within = within;
-      counts = rw c.rate-rate.ensures.value at c.after-self.ensures.stands;
+      counts = rw (c.rated_counts-counts.ensures.rate, c.rated_counts-counts.ensures.counts) at c.after-self.ensures.stands;
       have = frames_of-channels (channels_of plan.source) (samples c.args.format bytes);
       fed = subst Fed input_is (rw c.stages.ensures.value at c.feed_stages.ensures.gone.fed);
-      bits = subst (λ list. HaveBits (bits_left plan.stages) (fed_through (kept_in kept c.args.self.now.boxes) c.args.tables.now c.args.gain c.args.want plan.stages list)) input_is (rw c.stages.ensures.value at c.feed_stages.ensures.gone.bits);
+      bits = subst (λ list. HaveBits (bits_left plan.stages)
+          (fed_through (kept_in kept c.args.self.now.boxes) c.args.tables.now c.args.gain c.args.want plan.stages list)) input_is
+          (rw c.stages.ensures.value at c.feed_stages.ensures.gone.bits);
       out = (rw c.stages.ensures.value at c.feed_stages.ensures.gone.out)
-          ∙ ap (λ list. written (fed_through (kept_in kept c.args.self.now.boxes) c.args.tables.now c.args.gain c.args.want plan.stages list) c.args.out.now) input_is;
+          ∙ ap (λ list. written (fed_through (kept_in kept c.args.self.now.boxes) c.args.tables.now c.args.gain c.args.want plan.stages
+          list) c.args.out.now) input_is;
     }) stands past

@@ -20,27 +20,25 @@ use Rattle.pcm_plan.specs.Through.{recs}
 use Rattle.pcm_chain.specs.declared.counts.Advance.{Advance}
 use Rattle.pcm_chain.specs.Counts.{AreBounded}
 use Rattle.pcm_chain.specs.Pushes.{pushed_frames}
-use Rattle.pcm_chain.proofs.Counting.{rate-near, part-within}
+use Rattle.pcm_chain.proofs.Counting.{part-within}
 use Rattle.pcm_chain.proofs.Pushing.{whole-in_time, whole-is, block-records, come-first, copied-frames, count-frames, interleaved-bits, frames_of-bits, spelled-interleaved}
 use Rattle.pcm_chain.proofs.Standing.{stands-fitted}
 use Rattle.pcm_chain.proofs.chain.ChainOf.push_block.Goals as goal
 
-pub advance_whole-advance-requires-clause-near : goal.advance_whole-advance-requires-clause-near
-advance_whole-advance-requires-clause-near g c = rw c.rate-rate.ensures.value (rate-near c.args.self.now.plan c.rate-rate.ensures.fits)
-
 pub feed_stages-requires-clause-fitted : goal.feed_stages-requires-clause-fitted
-feed_stages-requires-clause-fitted g c = rw c.stages.ensures.value (stands-fitted g.B.Feeder.kept c.args.tables.now c.args.self.now c.requires.records.frames 0 _ c.requires.records.records)
-
-pub after-self-requires-clause-near : goal.after-self-requires-clause-near
-after-self-requires-clause-near g c = rw c.rate-rate.ensures.value (rate-near c.args.self.now.plan c.rate-rate.ensures.fits)
+feed_stages-requires-clause-fitted g c = rw c.stages.ensures.value
+    (stands-fitted g.B.Feeder.kept c.args.tables.now c.args.self.now c.requires.can.records.frames 0 _ c.requires.can.records.records)
 
 pub after-self-requires-clause-in_time : goal.after-self-requires-clause-in_time
-after-self-requires-clause-in_time g c = rw c.advance_whole-advance.ensures (whole-in_time c.rate-rate.result c.args.self.now.counts c.args.frames c.rate-rate.ensures.ratio (rw c.rate-rate.ensures.value c.args.self.now.bounded.in_time))
+after-self-requires-clause-in_time g c = rw c.advance_whole-advance.ensures
+    (whole-in_time c.rated_counts-counts.result.rate c.rated_counts-counts.result.counts c.args.frames
+    c.rated_counts-counts.result.near.ratio c.rated_counts-counts.result.bounded.in_time)
 
 pub after-self-requires-clause-within : goal.after-self-requires-clause-within
 after-self-requires-clause-within g c =
-    let whole = ap (λ (r : Rate). r.dst) c.rate-rate.ensures.value in
-    part-within c.rate-rate.result.dst c.period.result.1 c.period.ensures.same.factor c.rate-rate.ensures.ratio.dst (whole ∙ c.period.ensures.same.dst_is)
+    let whole = ap (λ (r : Rate). r.dst) c.rated_counts-counts.ensures.rate in
+    part-within c.rated_counts-counts.result.rate.dst c.period.result.1 c.period.ensures.same.factor
+    c.rated_counts-counts.result.near.ratio.dst (whole ∙ c.period.ensures.same.dst_is)
 
 pub spell-kept-requires-clause-range : goal.spell-kept-requires-clause-range
 spell-kept-requires-clause-range g c =
@@ -50,37 +48,64 @@ spell-kept-requires-clause-range g c =
     let layout = c.channels-source.ensures ∙ ap channels_of c.source.ensures in
     let above = channels_of-above plan.source in
     let input = pushed_frames plan c.args.input.now in
-    let offers = copied-frames (channels_of plan.source) c.args.frames c.channels-source.result c.args.input.now (fixed_items c.copy.new.self.now) layout c.requires.whole c.copy.ensures.loaded in
+    let offers = copied-frames (channels_of plan.source) c.args.frames c.channels-source.result c.args.input.now
+    (fixed_items c.copy.new.self.now) layout c.requires.whole c.copy.ensures.loaded in
     let have = frames_of-channels (channels_of plan.source) c.args.input.now in
-    let whole = whole-is kept c.args.tables.now input _ old (record old { boxes = c.feed_stages.new.boxes; counts = c.after-self.result; bounded = subst (λ r. AreBounded r c.after-self.result) c.rate-rate.ensures.value c.after-self.ensures.bounded }) _ _ c.rate-rate.result c.args.frames c.advance_whole-advance.result c.stages.result.now c.rate-rate.ensures.value
-    (count-frames (channels_of plan.source) c.args.frames c.args.input.now above c.requires.whole) c.advance_whole-advance.ensures c.stages.ensures.value offers refl have
-    c.after-self.ensures.stands c.feed_stages.ensures.gone.fed c.feed_stages.ensures.gone.bits c.feed_stages.ensures.gone.out in
-    let s = c.requires.records in
+    let whole = whole-is kept c.args.tables.now input _ old
+    (record old {
+      boxes = c.feed_stages.new.boxes;
+      counts = c.after-self.result;
+      bounded = subst (λ r. AreBounded r c.after-self.result)
+          c.rated_counts-counts.ensures.rate c.after-self.ensures.bounded;
+    }) _ _ c.rated_counts-counts.result.rate c.args.frames
+    c.advance_whole-advance.result c.stages.result.now c.rated_counts-counts.ensures.rate
+    (count-frames (channels_of plan.source) c.args.frames c.args.input.now above c.requires.whole)
+    (rw c.rated_counts-counts.ensures.counts at c.advance_whole-advance.ensures) c.stages.ensures.value offers refl have
+    (rw c.rated_counts-counts.ensures.counts at c.after-self.ensures.stands) c.feed_stages.ensures.gone.fed c.feed_stages.ensures.gone.bits
+    c.feed_stages.ensures.gone.out in
+    let s = c.requires.can.records in
     let more = block-records kept c.args.tables.now input old _ s.frames _ c.feed_stages.new.out whole.0 s.records in
-    let back = c.deref.ensures.value ∙ take_at c.feed_stages.new.out (drop (length c.feed_stages.new.out) (fixed_items old.block)) (fixed_len old.block) (omega (arith, c.feed_stages.auto.out, c.deref_mut.ensures.len)) in
-    let front = come-first kept c.args.tables.now input old _ s.frames _ c.feed_stages.new.out c.deref.result.now c.advance_whole-advance.result.given c.channels-target.result more s.records have back
+    let back = c.deref.ensures.value ∙ take_at c.feed_stages.new.out (drop (length c.feed_stages.new.out) (fixed_items old.block))
+    (fixed_len old.block) (omega (arith, c.feed_stages.auto.out, c.deref_mut.ensures.len)) in
+    let front = come-first kept c.args.tables.now input old _ s.frames _ c.feed_stages.new.out c.deref.result.now
+    c.advance_whole-advance.result.given c.channels-target.result more s.records have back
     (c.channels-target.ensures ∙ ap channels_of c.target.ensures) (omega (arith, whole.1)) in
     let fits = frames_of-bits 32 (channels_of plan.source) c.args.input.now c.copy.ensures.fits in
-    rw front (interleaved-bits (bits_of c.args.format) (recs plan c.args.tables.now (s.frames ++ input) (can (rate_in_plan plan) (length s.frames)) c.advance_whole-advance.result.given)
-    (c.requires.bits (s.frames ++ input) (can (rate_in_plan plan) (length s.frames)) c.advance_whole-advance.result.given (All-append (λ (frame : Frame). All (FitsBits 32) frame) s.frames input s.bits fits)))
+    rw front (interleaved-bits (bits_of c.args.format)
+    (recs plan c.args.tables.now (s.frames ++ input) (can (rate_in_plan plan) (length s.frames)) c.advance_whole-advance.result.given)
+    (c.requires.can.bits (s.frames ++ input) (can (rate_in_plan plan) (length s.frames)) c.advance_whole-advance.result.given
+    (All-append (λ (frame : Frame). All (FitsBits 32) frame) s.frames input s.bits fits)))
 
-pub returns-clause-records : goal.returns-clause-records
-returns-clause-records g c =
+pub returns-clause-stays : goal.returns-clause-stays
+returns-clause-stays g c =
     let kept = g.B.Feeder.kept in
     let old = c.args.self.now in
     let plan = old.plan in
     let layout = c.channels-source.ensures ∙ ap channels_of c.source.ensures in
     let above = channels_of-above plan.source in
     let input = pushed_frames plan c.args.input.now in
-    let offers = copied-frames (channels_of plan.source) c.args.frames c.channels-source.result c.args.input.now (fixed_items c.copy.new.self.now) layout c.requires.whole c.copy.ensures.loaded in
+    let offers = copied-frames (channels_of plan.source) c.args.frames c.channels-source.result c.args.input.now
+    (fixed_items c.copy.new.self.now) layout c.requires.whole c.copy.ensures.loaded in
     let have = frames_of-channels (channels_of plan.source) c.args.input.now in
-    let whole = whole-is kept c.args.tables.now input _ old _ _ _ c.rate-rate.result c.args.frames c.advance_whole-advance.result c.stages.result.now c.rate-rate.ensures.value
-    (count-frames (channels_of plan.source) c.args.frames c.args.input.now above c.requires.whole) c.advance_whole-advance.ensures c.stages.ensures.value offers refl have
-    c.after-self.ensures.stands c.feed_stages.ensures.gone.fed c.feed_stages.ensures.gone.bits c.feed_stages.ensures.gone.out in
-    let s = c.requires.records in
+    let whole = whole-is kept c.args.tables.now input _ old _ _ _ c.rated_counts-counts.result.rate c.args.frames
+    c.advance_whole-advance.result c.stages.result.now c.rated_counts-counts.ensures.rate
+    (count-frames (channels_of plan.source) c.args.frames c.args.input.now above c.requires.whole)
+    (rw c.rated_counts-counts.ensures.counts at c.advance_whole-advance.ensures) c.stages.ensures.value offers refl have
+    (rw c.rated_counts-counts.ensures.counts at c.after-self.ensures.stands) c.feed_stages.ensures.gone.fed c.feed_stages.ensures.gone.bits
+    c.feed_stages.ensures.gone.out in
+    let s = c.requires.can.records in
     let more = block-records kept c.args.tables.now input old _ s.frames _ c.feed_stages.new.out whole.0 s.records in
     let fits = frames_of-bits 32 (channels_of plan.source) c.args.input.now c.copy.ensures.fits in
-    record { frames = s.frames ++ input; bits = All-append (λ (frame : Frame). All (FitsBits 32) frame) s.frames input s.bits fits; records = more.records }
+    record {
+      plan = refl;
+      kinds = c.feed_stages.ensures.kinds;
+      records = record {
+        frames = s.frames ++ input;
+        bits = All-append (λ (frame : Frame). All (FitsBits 32) frame) s.frames input s.bits
+            fits;
+        records = more.records;
+      };
+    }
 
 pub returns-clause-pushes : goal.returns-clause-pushes
 returns-clause-pushes g c x stands =
@@ -90,21 +115,29 @@ returns-clause-pushes g c x stands =
     let layout = c.channels-source.ensures ∙ ap channels_of c.source.ensures in
     let above = channels_of-above plan.source in
     let input = pushed_frames plan c.args.input.now in
-    let offers = copied-frames (channels_of plan.source) c.args.frames c.channels-source.result c.args.input.now (fixed_items c.copy.new.self.now) layout c.requires.whole c.copy.ensures.loaded in
+    let offers = copied-frames (channels_of plan.source) c.args.frames c.channels-source.result c.args.input.now
+    (fixed_items c.copy.new.self.now) layout c.requires.whole c.copy.ensures.loaded in
     let have = frames_of-channels (channels_of plan.source) c.args.input.now in
-    let whole = whole-is kept c.args.tables.now input _ old _ _ _ c.rate-rate.result c.args.frames c.advance_whole-advance.result c.stages.result.now c.rate-rate.ensures.value
-    (count-frames (channels_of plan.source) c.args.frames c.args.input.now above c.requires.whole) c.advance_whole-advance.ensures c.stages.ensures.value offers refl have
-    c.after-self.ensures.stands c.feed_stages.ensures.gone.fed c.feed_stages.ensures.gone.bits c.feed_stages.ensures.gone.out in
+    let whole = whole-is kept c.args.tables.now input _ old _ _ _ c.rated_counts-counts.result.rate c.args.frames
+    c.advance_whole-advance.result c.stages.result.now c.rated_counts-counts.ensures.rate
+    (count-frames (channels_of plan.source) c.args.frames c.args.input.now above c.requires.whole)
+    (rw c.rated_counts-counts.ensures.counts at c.advance_whole-advance.ensures) c.stages.ensures.value offers refl have
+    (rw c.rated_counts-counts.ensures.counts at c.after-self.ensures.stands) c.feed_stages.ensures.gone.fed c.feed_stages.ensures.gone.bits
+    c.feed_stages.ensures.gone.out in
     let more = block-records kept c.args.tables.now input old _ x _ c.feed_stages.new.out whole.0 stands in
-    let back = c.deref.ensures.value ∙ take_at c.feed_stages.new.out (drop (length c.feed_stages.new.out) (fixed_items old.block)) (fixed_len old.block) (omega (arith, c.feed_stages.auto.out, c.deref_mut.ensures.len)) in
-    let front = come-first kept c.args.tables.now input old _ x _ c.feed_stages.new.out c.deref.result.now c.spell-kept.result c.channels-target.result more stands have back
+    let back = c.deref.ensures.value ∙ take_at c.feed_stages.new.out (drop (length c.feed_stages.new.out) (fixed_items old.block))
+    (fixed_len old.block) (omega (arith, c.feed_stages.auto.out, c.deref_mut.ensures.len)) in
+    let front = come-first kept c.args.tables.now input old _ x _ c.feed_stages.new.out c.deref.result.now c.spell-kept.result
+    c.channels-target.result more stands have back
     (c.channels-target.ensures ∙ ap channels_of c.target.ensures) (omega (arith, whole.1, c.spell-kept.ensures.kept)) in
     record {
       came = whole.1 ∙ more.came;
       records = more.records;
       bytes = ap (λ (ring : Ring). ring.bytes) c.spell-kept.ensures.ring
           ∙ ap (λ list. c.args.ring.now.bytes ++ flat_map (spelled c.args.format) list) front
-          ∙ ap (λ list. c.args.ring.now.bytes ++ list) (spelled-interleaved c.args.format (recs plan c.args.tables.now (x ++ input) (can (rate_in_plan plan) (length x)) c.spell-kept.result));
+          ∙ ap (λ list. c.args.ring.now.bytes ++ list)
+          (spelled-interleaved c.args.format (recs plan c.args.tables.now (x ++ input) (can (rate_in_plan plan) (length x))
+          c.spell-kept.result));
     }
 
 pub returns-clause-count : goal.returns-clause-count
@@ -114,11 +147,29 @@ returns-clause-count g c =
     let plan = c.args.self.now.plan in
     let width : c.channels-target.result ≡ channels_of plan.target = c.channels-target.ensures ∙ ap channels_of c.target.ensures in
     let given = c.advance_whole-advance.result.given in
-    let few : given + 1 ≤ 256 = omega (arith, ap (λ (a : Advance). a.given) c.advance_whole-advance.ensures, c.requires.reach, ap (λ r. can r (c.args.self.now.counts.eaten + c.args.frames)) c.rate-rate.ensures.value) in
+    let few : given + 1 ≤ 256 = omega (
+      arith,
+      ap (λ (a : Advance). a.given)
+          (rw c.rated_counts-counts.ensures.counts at c.advance_whole-advance.ensures),
+      c.requires.reach,
+      ap
+          (λ r. can r (c.args.self.now.counts.eaten + c.args.frames)) c.rated_counts-counts.ensures.rate,
+    ) in
     let small : n ≤ 256 = omega (arith, few, c.spell-kept.ensures.kept) in
     let most : c.channels-target.result ≤ 8 = omega (arith, width, channels_of-most plan.target) in
     let narrow = mul-le-mul small most in
     let list = take (n * c.channels-target.result) c.deref.result.now in
-    let long : length list ≡ n * c.channels-target.result = length-take-le (n * c.channels-target.result) c.deref.result.now (omega (arith, narrow, c.deref.ensures.len, c.args.self.now.block_size)) in
+    let long : length list ≡ n * c.channels-target.result = length-take-le (n * c.channels-target.result) c.deref.result.now
+    (omega (arith, narrow, c.deref.ensures.len, c.args.self.now.block_size)) in
     let spells = length-flat_map-spelled c.args.format list in
-    omega (arith, ap (λ (ring : Ring). length ring.bytes) c.spell-kept.ensures.ring, length-append c.args.ring.now.bytes (flat_map (spelled c.args.format) list), spells, ap (λ k. k * w) long, mul_assoc n c.channels-target.result w, ap (λ k. n * (k * w)) width)
+    omega (
+      arith,
+      ap (λ (ring : Ring). length ring.bytes) c.spell-kept.ensures.ring,
+      length-append c.args.ring.now.bytes
+          (flat_map (spelled c.args.format) list),
+      spells,
+      ap (λ k. k * w) long,
+      mul_assoc n c.channels-target.result w,
+      ap (λ k. n * (k * w))
+          width,
+    )

@@ -21,4 +21,5 @@ spell_behind-requires-clause-room c =
 pub spell_behind-requires-clause-range : goal.spell_behind-requires-clause-range
 spell_behind-requires-clause-range c =
     let narrow = mul-le-mul_right {m = c.min-kept.result} {n = c.args.count} c.args.channels (omega (arith, c.min-kept.ensures)) in
-    front-each (FitsBits (bits_of c.args.format)) (c.min-kept.result * c.args.channels) (c.args.count * c.args.channels) c.args.samples.now (omega (arith, narrow)) c.requires.range
+    front-each (FitsBits (bits_of c.args.format)) (c.min-kept.result * c.args.channels) (c.args.count * c.args.channels) c.args.samples.now
+    (omega (arith, narrow)) c.requires.range

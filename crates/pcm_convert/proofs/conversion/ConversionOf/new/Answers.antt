@@ -28,7 +28,9 @@ product-fits a b few small = grind arith
 pub overflow_mul-frames : goal.overflow_mul-frames
 overflow_mul-frames g c =
     let plan : IsPlan c.plan_record-plan.result = rw c.plan_record-plan.ensures.value
-    (record-fits c.none-tables.result 1 c.args.target c.args.source c.plan_record-plan.ensures.limits c.requires.target c.requires.source) in
+    (record-fits c.none-tables.result 1 c.args.target c.args.source c.plan_record-plan.ensures.limits c.requires.target
+    c.requires.source) in
     let near = need-near (rate_in_plan c.plan_record-plan.result) 16385 (rate-near c.plan_record-plan.result plan) in
-    let small = product-fits c.need-frames.result c.frame_bytes.result (omega (arith, near, c.need-frames.ensures)) (omega (arith, frame_bytes-most c.args.source, c.frame_bytes.ensures)) in
+    let small = product-fits c.need-frames.result c.frame_bytes.result (omega (arith, near, c.need-frames.ensures))
+    (omega (arith, frame_bytes-most c.args.source, c.frame_bytes.ensures)) in
     search (rules, small)

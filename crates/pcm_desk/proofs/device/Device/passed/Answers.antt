@@ -14,9 +14,12 @@ quotient c =
     let ring_fits : FitsSigned w128 (pos device.ring_frames) = record { sfits = omega (arith, ints) } in
     let mix_fits : FitsSigned w128 (pos device.mix.rate) = record { sfits = omega (arith, ints) } in
     let rate_fits : FitsSigned w128 (pos device.settings.rate) = record { sfits = omega (arith, ints) } in
-    let gap_fits : FitsSigned w128 (pos c.args.handed -ℤ pos device.ring_frames) = fits-gap c.args.handed device.ring_frames (omega arith) (omega arith) in
-    let product_fits : FitsSigned w128 ((pos c.args.handed -ℤ pos device.ring_frames) *ℤ pos device.mix.rate) = fits-product c.args.handed device.ring_frames device.mix.rate (omega arith) (omega arith) c.requires.rates.mix_rate.most in
-    let is : c.div_euclid.result ≡ int_div_euclid ((pos c.args.handed -ℤ pos device.ring_frames) *ℤ pos device.mix.rate) (pos device.settings.rate) =
+    let gap_fits : FitsSigned w128 (pos c.args.handed -ℤ pos device.ring_frames) = fits-gap c.args.handed device.ring_frames (omega arith)
+    (omega arith) in
+    let product_fits : FitsSigned w128 ((pos c.args.handed -ℤ pos device.ring_frames) *ℤ pos device.mix.rate) = fits-product c.args.handed
+    device.ring_frames device.mix.rate (omega arith) (omega arith) c.requires.rates.mix_rate.most in
+    let is : c.div_euclid.result ≡ int_div_euclid ((pos c.args.handed -ℤ pos device.ring_frames) *ℤ pos device.mix.rate)
+    (pos device.settings.rate) =
     simp to_z-of_z at (rw (c.from.ensures, c.from-2.ensures, c.from-mix.ensures, c.from-rate.ensures) at c.div_euclid.ensures) in
     is ∙ euclid-floor ((pos c.args.handed -ℤ pos device.ring_frames) *ℤ pos device.mix.rate) device.settings.rate
 
@@ -24,7 +27,8 @@ quotient c =
 narrow : (c : goal.After-div_euclid) → FitsSigned w64 c.div_euclid.result
 narrow c =
     let device = c.args.self.now in
-    subst (FitsSigned w64) (sym (quotient c)) (fits-passed (unfiltered device) c.args.handed c.requires.count (omega arith) c.requires.rates.mix_rate c.requires.rates.rate)
+    subst (FitsSigned w64) (sym (quotient c))
+    (fits-passed (unfiltered device) c.args.handed c.requires.count (omega arith) c.requires.rates.mix_rate c.requires.rates.rate)
 
 wide : (c : goal.After-div_euclid) → FitsSigned w128 c.div_euclid.result
 wide c = record { sfits = c.div_euclid.type_inv }

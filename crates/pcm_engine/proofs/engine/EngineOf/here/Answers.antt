@@ -9,4 +9,5 @@ returns-clause-within g c =
     subst IsHere (sym c.here.ensures) (here-within g.B.Feeder.kept c.args.self.now c.requires.ready.limits c.requires.ready.bus)
 
 pub returns-clause-mixed : goal.returns-clause-mixed
-returns-clause-mixed g c = subst (λ (here : Here). here.mixed < 2 ^ 53) (sym c.here.ensures) (few-mixed g.B.Feeder.kept c.args.self.now c.requires.ready.bus)
+returns-clause-mixed g c = subst (λ (here : Here). here.mixed < 2 ^ 53) (sym c.here.ensures)
+    (few-mixed g.B.Feeder.kept c.args.self.now c.requires.ready.bus)

@@ -11,4 +11,5 @@ returns-clause-taken g c =
     let count = engine.parent.maps_count in
     let there = c.requires.there in
     subst (λ (channel : MapChannelOf _). taken_of channel.book < 2 ^ 64) (sym c.index.ensures)
-    (maps-taken g.B.Feeder.kind g.B.Feeder.kept engine c.requires.ready c.args.place c.index.result.now (omega (arith, there, count, items-count engine.parent.maps)))
+    (maps-taken g.B.Feeder.kind g.B.Feeder.kept engine c.requires.ready c.args.place c.index.result.now
+    (omega (arith, there, count, items-count engine.parent.maps)))

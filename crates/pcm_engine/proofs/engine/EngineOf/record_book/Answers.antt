@@ -11,7 +11,8 @@ returns-clause-captured g c =
     let engine = c.args.self.now in
     let there = c.requires in
     let slots = engine.parent.recorders_count in
-    let captured = (record-pace engine c.args.slot c.index.result.now (omega (arith, there, slots, items-count engine.parent.recorders))).captured in
+    let captured = (record-pace engine c.args.slot c.index.result.now
+    (omega (arith, there, slots, items-count engine.parent.recorders))).captured in
     subst (λ (channel : RecordChannelOf _). channel.book.captured ≤ LIFE) (sym c.index.ensures) (omega (arith, captured, engine.order.life))
 
 pub returns-clause-kept : goal.returns-clause-kept
@@ -19,5 +20,7 @@ returns-clause-kept g c =
     let engine = c.args.self.now in
     let there = c.requires in
     let slots = engine.parent.recorders_count in
-    let kept = (record-pace engine c.args.slot c.index.result.now (omega (arith, there, slots, items-count engine.parent.recorders))).kept in
-    subst (λ (channel : RecordChannelOf _). channel.book.kept ≤ RING_BYTES * LIFE) (sym c.index.ensures) (omega (arith, kept, engine.order.life))
+    let kept = (record-pace engine c.args.slot c.index.result.now
+    (omega (arith, there, slots, items-count engine.parent.recorders))).kept in
+    subst (λ (channel : RecordChannelOf _). channel.book.kept ≤ RING_BYTES * LIFE) (sym c.index.ensures)
+    (omega (arith, kept, engine.order.life))

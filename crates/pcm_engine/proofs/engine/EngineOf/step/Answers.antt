@@ -11,7 +11,8 @@ apply-requires g c =
     let device = device_of c.args.self.now in
     record {
       within = allowed-fits device c.args.pool.now c.args.event.now c.requires.fits;
-      bytes = ap (λ (bytes : List ℕ). length bytes) c.bytes_brought.ensures ∙ length-brought c.args.pool.now c.args.event.now (named-fits device c.args.pool.now c.args.event.now c.requires.fits);
+      bytes = ap (λ (bytes : List ℕ). length bytes) c.bytes_brought.ensures
+          ∙ length-brought c.args.pool.now c.args.event.now (named-fits device c.args.pool.now c.args.event.now c.requires.fits);
       step = record { ready = search rules; room = can.room; life = can.life };
     }
 
@@ -23,6 +24,9 @@ returns g c =
     let loaded = loaded-called old c.args.pool.now event _ _ c.requires.fits c.requires.captures c.bytes_brought.ensures
     (c.load_brought.ensures.length ∙ ap (λ (samples : List ℤ). length samples) c.deref_mut.ensures.value) c.load_brought.ensures.loaded in
     record {
-      stepped = stepped-applied g.B.Feeder.kind g.B.Feeder.kept event _ _ old _ _ made.applied made.tables (allowed-fits (device_of old) c.args.pool.now event c.requires.fits) c.requires.can.ready _ _ _ made.count made.rest;
-      told = steps-as-called g.B.Feeder.kind g.B.Feeder.kept event _ _ old _ _ _ made.applied made.tables (made.out ∙ ap (λ (n : ℕ). take n old.parent.ring.bytes) made.count) c.requires.can.ready c.args.pool.now event loaded;
+      stepped = stepped-applied g.B.Feeder.kind g.B.Feeder.kept event _ _ old _ _ made.applied made.tables
+          (allowed-fits (device_of old) c.args.pool.now event c.requires.fits) c.requires.can.ready _ _ _ made.out.size_is made.out.rest;
+      told = steps-as-called g.B.Feeder.kind g.B.Feeder.kept event _ _ old _ _ _ made.applied made.tables
+          (made.out.front ∙ ap (λ (n : ℕ). take n old.parent.ring.bytes) made.out.size_is) c.requires.can.ready c.args.pool.now event
+          loaded;
     }

@@ -7,4 +7,5 @@ use Rattle.pcm_feeder.proofs.last_frames.LastFrames.silent.Goals as goal
 pub returns-clause-silence : goal.returns-clause-silence
 returns-clause-silence c =
     let channels = c.args.channels in
-    silent-frames channels c.args.frames 16 (omega (arith, c.requires.limits.least)) (omega (arith, mul-le-mul_right channels c.requires.few, c.requires.limits.most))
+    silent-frames channels c.args.frames 16 (omega (arith, c.requires.limits.least))
+    (omega (arith, mul-le-mul_right channels c.requires.few, c.requires.limits.most))

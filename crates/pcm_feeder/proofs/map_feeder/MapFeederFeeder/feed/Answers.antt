@@ -25,12 +25,14 @@ returns g c =
     let does : MapsFrames spec f list want (fed kept c.args.tables.now c.args.pull.gain samples want) =
     rw before (fed-maps spec (by.mapped made) c.args.tables.now c.args.pull.gain samples want (g.met.M.FrameMap.maps made)) in
     let count : min want (length list) ≡ n =
-    ap (min want) (length-frames_of (channels_in spec) samples) ∙ sym (c.min-frames.ensures ∙ ap (λ k. min want (length samples / k)) c.channels.ensures.value) in
+    ap (min want) (length-frames_of (channels_in spec) samples)
+    ∙ sym (c.min-frames.ensures ∙ ap (λ k. min want (length samples / k)) c.channels.ensures.value) in
     record {
       eaten = sym (does.eaten ∙ count);
       given = sym (does.given ∙ count);
       most = omega (arith, c.min-frames.ensures);
-      frames = c.put_frames.ensures ∙ ap (λ k. written (map f (take k list)) old) (sym count) ∙ ap (λ frames. written frames old) (sym does.frames);
+      frames = c.put_frames.ensures ∙ ap (λ k. written (map f (take k list)) old) (sym count)
+          ∙ ap (λ frames. written frames old) (sym does.frames);
       kept = before ∙ sym does.kept;
       spec = refl;
       kind = refl;

@@ -17,9 +17,12 @@ loop-seven-preserved g c =
     let racks = c.loop-seven.racks.items in
     let rack = c.in-Ok.rack in
     record {
-      kinds = rw c.in_ok-push-in-Ok.ensures.items (All-push (IsRack g.B.Feeder.kind) racks rack c.loop-seven.invariant.kinds c.in-Ok.ensures.kinds);
-      same = rw c.in_ok-push-in-Ok.ensures.items (map-append boxes_of racks (rack ∷ []) ∙ rw (c.loop-seven.invariant.same, c.in-Ok.ensures.same));
-      left = one-more c.args.boxes.items c.loop-seven.yielded c.loop-seven.seven-iterator.rest.items c.next.new.self.rest.items c.in-Some.seven c.loop-seven.invariant.left c.in-Some.ensures.steps.0;
+      kinds = rw c.in_ok-push-in-Ok.ensures.items
+          (All-push (IsRack g.B.Feeder.kind) racks rack c.loop-seven.invariant.kinds c.in-Ok.ensures.kinds);
+      same = rw c.in_ok-push-in-Ok.ensures.items
+          (map-append boxes_of racks (rack ∷ []) ∙ rw (c.loop-seven.invariant.same, c.in-Ok.ensures.same));
+      left = one-more c.args.boxes.items c.loop-seven.yielded c.loop-seven.seven-iterator.rest.items c.next.new.self.rest.items
+          c.in-Some.seven c.loop-seven.invariant.left c.in-Some.ensures.steps.0;
     }
 
 pub returns-in-Err-clause-fault : goal.returns-in-Err-clause-fault
@@ -30,7 +33,9 @@ returns-in-Err-clause-fault g c =
       before = yielded;
       seven = c.in-Some.seven;
       after = c.next.new.self.rest.items;
-      split = next-split c.args.boxes.items yielded c.loop-seven.seven-iterator.rest.items c.next.new.self.rest.items c.in-Some.seven c.loop-seven.invariant.left c.in-Some.ensures.steps.0;
-      right = All-same (HaveKinds g.B.Feeder.kind) yielded (map boxes_of racks) (sym c.loop-seven.invariant.same) (All-map (HaveKinds g.B.Feeder.kind) boxes_of racks c.loop-seven.invariant.kinds);
+      split = next-split c.args.boxes.items yielded c.loop-seven.seven-iterator.rest.items c.next.new.self.rest.items c.in-Some.seven
+          c.loop-seven.invariant.left c.in-Some.ensures.steps.0;
+      right = All-same (HaveKinds g.B.Feeder.kind) yielded (map boxes_of racks) (sym c.loop-seven.invariant.same)
+          (All-map (HaveKinds g.B.Feeder.kind) boxes_of racks c.loop-seven.invariant.kinds);
       wrong = c.in-Err.ensures.wrong;
     }

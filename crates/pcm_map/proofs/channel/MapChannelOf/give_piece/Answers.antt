@@ -1,4 +1,5 @@
 use Rattle.std.proofs.Common.{rules, length, length-take, refl, sym, ap, ◌∙◌, subst, arith}
+use Rattle.std.proofs.lemmas.Grind.{common_steps}
 use Rattle.pcm_oss.proofs.Limits.{least-ring}
 use Rattle.pcm_feeder.specs.Limits.{IsRate}
 use Rattle.pcm_rate.specs.Rates.{IsRatio}
@@ -20,7 +21,9 @@ pub refilled-book-requires : goal.refilled-book-requires
 refilled-book-requires g c =
     let old = c.args.self.now in
     let planned = c.requires.ready.planned (running-held c.args.self.now.book.state c.requires.running) in
-    let fits = next-fits c.args.tables.now c.args.n old c.rate.result (c.rate.ensures.value ∙ ap (λ (p : PlanSeen). rate_in_plan p) c.plan.ensures ∙ planned-rate c.args.tables.now old planned) c.requires.count in
+    let fits = next-fits c.args.tables.now c.args.n old c.rate.result
+    (c.rate.ensures.value ∙ ap (λ (p : PlanSeen). rate_in_plan p) c.plan.ensures ∙ planned-rate c.args.tables.now old planned)
+    c.requires.count in
     record { ratio = search rules; given = search rules; eaten = omega (arith, fits) }
 
 pub overflow_sub-count : goal.overflow_sub-count
@@ -28,19 +31,22 @@ overflow_sub-count g c =
     let old = c.args.self.now in
     let planned = c.requires.ready.planned (running-held c.args.self.now.book.state c.requires.running) in
     eaten-grows c.args.tables.now c.args.n old c.refilled-book.result planned
-    (book-given c.args.tables.now c.args.n old c.refilled-book.result c.rate.result c.plan.result.now planned c.requires.running c.refilled-book.ensures c.rate.ensures.value c.plan.ensures)
+    (book-given c.args.tables.now c.args.n old c.refilled-book.result c.rate.result c.plan.result.now planned c.requires.running
+    c.refilled-book.ensures c.rate.ensures.value c.plan.ensures)
 
 pub overflow_mul-count : goal.overflow_mul-count
 overflow_mul-count g c =
     let old = c.args.self.now in
     let planned = c.requires.ready.planned (running-held c.args.self.now.book.state c.requires.running) in
     let few = eaten-few c.args.tables.now c.args.n old c.refilled-book.result c.frame_bytes.result planned c.requires.few
-    (book-given c.args.tables.now c.args.n old c.refilled-book.result c.rate.result c.plan.result.now planned c.requires.running c.refilled-book.ensures c.rate.ensures.value c.plan.ensures) c.frame_bytes.ensures in
+    (book-given c.args.tables.now c.args.n old c.refilled-book.result c.rate.result c.plan.result.now planned c.requires.running
+    c.refilled-book.ensures c.rate.ensures.value c.plan.ensures) c.frame_bytes.ensures in
     omega (arith, few)
 
 pub taken-requires : goal.taken-requires
 taken-requires g c =
-    taken-fits c.args.tables.now c.args.n c.args.self.now (c.requires.ready.planned (running-held c.args.self.now.book.state c.requires.running)) c.requires.count
+    taken-fits c.args.tables.now c.args.n c.args.self.now
+    (c.requires.ready.planned (running-held c.args.self.now.book.state c.requires.running)) c.requires.count
 
 pub put_round-requires-clause-some : goal.put_round-requires-clause-some
 put_round-requires-clause-some g c =
@@ -53,37 +59,48 @@ put_round-requires-clause-room g c =
     let old = c.args.self.now in
     let planned = c.requires.ready.planned (running-held c.args.self.now.book.state c.requires.running) in
     let few = eaten-few c.args.tables.now c.args.n old c.refilled-book.result c.frame_bytes.result planned c.requires.few
-    (book-given c.args.tables.now c.args.n old c.refilled-book.result c.rate.result c.plan.result.now planned c.requires.running c.refilled-book.ensures c.rate.ensures.value c.plan.ensures) c.frame_bytes.ensures in
+    (book-given c.args.tables.now c.args.n old c.refilled-book.result c.rate.result c.plan.result.now planned c.requires.running
+    c.refilled-book.ensures c.rate.ensures.value c.plan.ensures) c.frame_bytes.ensures in
     let empty = old.ring in
     omega (arith, few, ap (λ (ring : Ring). ring.size) empty, ap (λ (ring : Ring). length ring.bytes) empty)
 
-pub pull-requires-clause-fitted : goal.pull-requires-clause-fitted
-pull-requires-clause-fitted g c =
-    let old = c.args.self.now in
-    stands-fitted g.B.Feeder.kept c.args.tables.now old.path.chain _ 0 old.book.given (c.requires.ready.stands.stands.chain_is (running-held old.book.state c.requires.running))
-
-pub pull-requires-clause-tables : goal.pull-requires-clause-tables
-pull-requires-clause-tables g c =
+pub pull-requires : goal.pull-requires
+pull-requires g c =
     let old = c.args.self.now in
     let planned = c.requires.ready.planned (running-held c.args.self.now.book.state c.requires.running) in
-    subst (λ (p : PlanSeen). HaveTables p.stages c.args.tables.now) (sym planned.plan_is)
-    (tables-between (seen c.args.tables.now old.path.device) old.book.opening.settings (planned-device c.args.tables.now old planned) old.rate)
+    record {
+      fitted = stands-fitted g.B.Feeder.kept c.args.tables.now old.path.chain _ 0 old.book.given
+          (c.requires.ready.stands.stands.chain_is (running-held old.book.state c.requires.running));
+      limits = search rules;
+      filters = subst (λ (p : PlanSeen). HaveTables p.stages c.args.tables.now) (sym planned.plan_is)
+          (tables-between (seen c.args.tables.now old.path.device) old.book.opening.settings (planned-device c.args.tables.now old planned)
+          old.rate);
+      room = grind (arith, common_steps);
+    }
 
 pub invariant_of-self : goal.invariant_of-self
 invariant_of-self g c =
     let old = c.args.self.now in
     let filters = c.args.tables.now in
     let planned = c.requires.ready.planned (running-held c.args.self.now.book.state c.requires.running) in
-    let is = book-given filters c.args.n old c.refilled-book.result c.rate.result c.plan.result.now planned c.requires.running c.refilled-book.ensures c.rate.ensures.value c.plan.ensures in
-    let filled = ring-filled filters c.args.n old c.refilled-book.result c.deref.result.now c.size.result c.taken.result c.frame_bytes.result c.put_round.new.ring is c.size.ensures c.deref.ensures.value c.taken.ensures c.frame_bytes.ensures c.put_round.ensures in
+    let is = book-given filters c.args.n old c.refilled-book.result c.rate.result c.plan.result.now planned c.requires.running
+    c.refilled-book.ensures c.rate.ensures.value c.plan.ensures in
+    let filled = ring-filled filters c.args.n old c.refilled-book.result c.deref.result.now c.size.result c.taken.result
+    c.frame_bytes.result c.put_round.new.ring is c.size.ensures c.deref.ensures.value c.taken.ensures c.frame_bytes.ensures
+    c.put_round.ensures in
     let some = c.requires.ready.stands in
-    let p = pulls-piece g.B.Feeder.kept filters c.gain_of-gain.result c.args.n old c.put_round.new.ring c.pull.new.self c.pull.result c.args.frames.now c.pull.new.out planned c.requires.running (ap (λ (ring : Ring). ring.bytes) filled) c.pull.ensures.pulls some.bytes some.stands in
+    let p = pulls-piece g.B.Feeder.kept filters c.gain_of-gain.result c.args.n old c.put_round.new.ring c.pull.new.self c.pull.result
+    c.args.frames.now c.pull.new.out planned c.requires.running (ap (λ (ring : Ring). ring.bytes) filled) c.pull.ensures.pulls
+    some.bytes some.stands in
     record {
       rates = old.rates;
       rate = subst (λ (b : MapBook). IsRate b.opening.settings.rate) (sym is) old.rate;
-      ratio = subst (λ (q : PlanSeen). IsRatio (rate_in_plan q)) (sym c.pull.ensures.plan) old.ratio;
-      ring = ring-again c.put_round.new.ring c.pull.new.ring _ (taken_for filters c.args.n old) filled c.pull.ensures.ring (ring-empty g.B.Feeder.kept filters c.gain_of-gain.result c.args.n old some.bytes c.pull.new.self c.pull.result c.args.frames.now c.pull.new.out planned p);
-      safe = subst (λ (q : PlanSeen). MapIsSafe (rate_in_plan q) c.refilled-book.result) (sym c.pull.ensures.plan) (safe-given filters c.args.n old c.refilled-book.result planned c.requires.running is);
+      ratio = subst (λ (q : PlanSeen). IsRatio (rate_in_plan q)) (sym c.pull.ensures.leaves.stays.plan) old.ratio;
+      ring = ring-again c.put_round.new.ring c.pull.new.ring _ (taken_for filters c.args.n old) filled c.pull.ensures.leaves.ring
+          (ring-empty g.B.Feeder.kept filters c.gain_of-gain.result c.args.n old some.bytes c.pull.new.self c.pull.result c.args.frames.now
+          c.pull.new.out planned p);
+      safe = subst (λ (q : PlanSeen). MapIsSafe (rate_in_plan q) c.refilled-book.result) (sym c.pull.ensures.leaves.stays.plan)
+          (safe-given filters c.args.n old c.refilled-book.result planned c.requires.running is);
       size = old.size;
     }
 
@@ -92,9 +109,14 @@ returns g c =
     let old = c.args.self.now in
     let filters = c.args.tables.now in
     let planned = c.requires.ready.planned (running-held c.args.self.now.book.state c.requires.running) in
-    let is = book-given filters c.args.n old c.refilled-book.result c.rate.result c.plan.result.now planned c.requires.running c.refilled-book.ensures c.rate.ensures.value c.plan.ensures in
-    let filled = ring-filled filters c.args.n old c.refilled-book.result c.deref.result.now c.size.result c.taken.result c.frame_bytes.result c.put_round.new.ring is c.size.ensures c.deref.ensures.value c.taken.ensures c.frame_bytes.ensures c.put_round.ensures in
+    let is = book-given filters c.args.n old c.refilled-book.result c.rate.result c.plan.result.now planned c.requires.running
+    c.refilled-book.ensures c.rate.ensures.value c.plan.ensures in
+    let filled = ring-filled filters c.args.n old c.refilled-book.result c.deref.result.now c.size.result c.taken.result
+    c.frame_bytes.result c.put_round.new.ring is c.size.ensures c.deref.ensures.value c.taken.ensures c.frame_bytes.ensures
+    c.put_round.ensures in
     record {
-      gives = piece-gives g.B.Feeder.kind g.B.Feeder.kept filters c.args.n old _ c.put_round.new.ring c.pull.result c.gain_of-gain.result c.args.frames.now c.pull.new.out planned c.requires.running refl refl c.pull.ensures.plan c.pull.ensures.kinds is
+      gives = piece-gives g.B.Feeder.kind g.B.Feeder.kept filters c.args.n old _ c.put_round.new.ring c.pull.result c.gain_of-gain.result
+          c.args.frames.now c.pull.new.out planned c.requires.running refl refl c.pull.ensures.leaves.stays.plan
+          c.pull.ensures.leaves.stays.kinds is
           (ap (λ (ring : Ring). ring.bytes) filled) c.gain_of-gain.ensures.value c.pull.ensures.pulls c.requires.ready.stands;
     }

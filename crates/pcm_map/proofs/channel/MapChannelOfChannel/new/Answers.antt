@@ -27,8 +27,10 @@ returns g c =
         book = ap (λ (b : MapBook). record b { state = Free }) begun;
         kinds = c.begin_run.ensures.kinds;
         planned = c.begin_run.ensures.planned;
-        stands = stands-empty g.B.Feeder.kept c.args.tables.now _ (ap (λ (b : MapBook). b.eaten) begun) (ap (λ (b : MapBook). b.given) begun) c.begin_run.ensures.empty;
-        area = ap (take (ring_bytes c.begun.result.opening)) (items-written c.new-area.result c.silence.new.area (c.silence.auto.area ∙ c.deref_mut.ensures.len)) ∙ c.silence.ensures;
+        stands = stands-empty g.B.Feeder.kept c.args.tables.now _ (ap (λ (b : MapBook). b.eaten) begun)
+            (ap (λ (b : MapBook). b.given) begun) c.begin_run.ensures.empty;
+        area = ap (take (ring_bytes c.begun.result.opening))
+            (items-written c.new-area.result c.silence.new.area (c.silence.auto.area ∙ c.deref_mut.ensures.len)) ∙ c.silence.ensures;
       };
       boxes = c.begin_run.ensures.marks ∙ c.in_ok-path.ensures.boxes;
     }

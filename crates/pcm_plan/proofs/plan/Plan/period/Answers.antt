@@ -12,6 +12,7 @@ returns-clause-period c =
     let kept = c.self.invariant in
     let P : Rate → Type 0 = λ r. IsPeriod r s d in
     let cross : s * rate.dst ≡ d * rate.src =
-    ap (λ z. s * z) kept.same.dst_is ∙ (let order : s * (d * kept.same.factor) ≡ d * (s * kept.same.factor) = omega arith in order) ∙ ap (λ z. d * z) (sym kept.same.src_is) in
+    ap (λ z. s * z) kept.same.dst_is ∙ (let order : s * (d * kept.same.factor) ≡ d * (s * kept.same.factor) = omega arith in order)
+    ∙ ap (λ z. d * z) (sym kept.same.src_is) in
     let ratio : IsRatio rate = rw (kept.rate_is) (ratio-in _ kept.fits) in
     rw (← c.self.view_is) (subst P kept.rate_is (record { src_above = ratio.src; dst_above = ratio.dst; same = cross }))

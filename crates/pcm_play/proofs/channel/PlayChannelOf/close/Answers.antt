@@ -13,10 +13,12 @@ use Rattle.pcm_play.proofs.channel.PlayChannelOf.close.Goals as goal
 pub invariant_of-self : goal.invariant_of-self
 invariant_of-self g c =
     let old = c.args.self.now in
-    let k = book-closed old c.args.here c.closed-self.result c.rate-rate.result c.plan.result.now c.closed-self.ensures c.rate-rate.ensures.value c.plan.ensures in
+    let k = book-closed old c.args.here c.closed-self.result c.rate-rate.result c.plan.result.now c.closed-self.ensures
+    c.rate-rate.ensures.value c.plan.ensures in
     let none = k.left.ended c.if-self-eq0.true in
     record {
-      serves = serves-as old.book.opening c.closed-self.result.opening old.path c.restart.new.self [] c.restart.ensures.device c.restart.ensures.plan c.restart.ensures.ring k.keeps.settings k.keeps.fragments old.serves;
+      serves = serves-as old.book.opening c.closed-self.result.opening old.path c.restart.new.self [] c.restart.ensures.device
+          c.restart.ensures.plan c.restart.ensures.ring k.keeps.settings k.keeps.fragments old.serves;
       fill = ap length c.restart.ensures.empty.ring ∙ none.3;
       within = none.2;
       safe = subst (λ (p : PlanSeen). PlayIsSafe (rate_in_plan p) c.closed-self.result) (sym c.restart.ensures.plan) k.left.safe;
@@ -25,11 +27,13 @@ invariant_of-self g c =
 pub invariant_of-self-else-self-eq0 : goal.invariant_of-self-else-self-eq0
 invariant_of-self-else-self-eq0 g c =
     let old = c.args.self.now in
-    let k = book-closed old c.args.here c.closed-self.result c.rate-rate.result c.plan.result.now c.closed-self.ensures c.rate-rate.ensures.value c.plan.ensures in
+    let k = book-closed old c.args.here c.closed-self.result c.rate-rate.result c.plan.result.now c.closed-self.ensures
+    c.rate-rate.ensures.value c.plan.ensures in
     let go = k.left.goes c.if-self-eq0.false in
     let size : frame_bytes c.closed-self.result.opening.settings ≡ frame_bytes old.book.opening.settings = ap frame_bytes go.settings in
     record {
-      serves = serves-as old.book.opening c.closed-self.result.opening old.path old.path old.path.ring.bytes refl refl refl go.settings go.fragments old.serves;
+      serves = serves-as old.book.opening c.closed-self.result.opening old.path old.path old.path.ring.bytes refl refl refl go.settings
+          go.fragments old.serves;
       fill = old.fill ∙ sym (rw (go.written, go.eaten, size) refl);
       within = rw (go.eaten, size, go.written) old.within;
       safe = k.left.safe;
@@ -39,13 +43,19 @@ pub returns-then-self-eq0 : goal.returns-then-self-eq0
 returns-then-self-eq0 g c = record {
   device = c.restart.ensures.device;
   book = λ filters served.
-      closed-is filters c.args.here c.args.self.now c.closed-self.result c.rate-rate.result c.plan.result.now served c.closed-self.ensures c.rate-rate.ensures.value c.plan.ensures;
+      closed-is filters c.args.here c.args.self.now c.closed-self.result c.rate-rate.result c.plan.result.now served c.closed-self.ensures
+      c.rate-rate.ensures.value c.plan.ensures;
   moves = λ filters.
       let old = c.args.self.now in
-      let k = book-closed old c.args.here c.closed-self.result c.rate-rate.result c.plan.result.now c.closed-self.ensures c.rate-rate.ensures.value c.plan.ensures in
+      let k = book-closed old c.args.here c.closed-self.result c.rate-rate.result c.plan.result.now c.closed-self.ensures
+      c.rate-rate.ensures.value c.plan.ensures in
       let left = k.left in
       let none = left.ended c.if-self-eq0.true in
-      moves-ended g.B.Feeder.kind g.B.Feeder.kept filters _ 0 old _ c.restart.ensures.kinds (λ p used. planned-as Play filters _ _ old.path c.restart.new.self c.restart.ensures.device c.restart.ensures.plan k.keeps.settings (p (closed-held c.rate-rate.result c.args.here old.book (ap (λ (b : PlayBook). is_play_free b.state) (sym c.closed-self.ensures) ∙ used)))) c.if-self-eq0.true none.0 none.1 c.restart.ensures.empty
+      moves-ended g.B.Feeder.kind g.B.Feeder.kept filters _ 0 old _ c.restart.ensures.kinds
+      (λ p used. planned-as Play filters _ _ old.path c.restart.new.self c.restart.ensures.device c.restart.ensures.plan
+      k.keeps.settings (p (closed-held c.rate-rate.result c.args.here old.book
+      (ap (λ (b : PlayBook). is_play_free b.state) (sym c.closed-self.ensures) ∙ used)))) c.if-self-eq0.true none.0 none.1
+      c.restart.ensures.empty
       (left.done c.if-self-eq0.true);
 }
 
@@ -53,9 +63,11 @@ pub returns-else-self-eq0 : goal.returns-else-self-eq0
 returns-else-self-eq0 g c = record {
   device = refl;
   book = λ filters served.
-      closed-is filters c.args.here c.args.self.now c.closed-self.result c.rate-rate.result c.plan.result.now served c.closed-self.ensures c.rate-rate.ensures.value c.plan.ensures;
+      closed-is filters c.args.here c.args.self.now c.closed-self.result c.rate-rate.result c.plan.result.now served c.closed-self.ensures
+      c.rate-rate.ensures.value c.plan.ensures;
   moves = λ filters.
       let old = c.args.self.now in
-      let left = (book-closed old c.args.here c.closed-self.result c.rate-rate.result c.plan.result.now c.closed-self.ensures c.rate-rate.ensures.value c.plan.ensures).left in
+      let left = (book-closed old c.args.here c.closed-self.result c.rate-rate.result c.plan.result.now c.closed-self.ensures
+      c.rate-rate.ensures.value c.plan.ensures).left in
       moves-state g.B.Feeder.kind g.B.Feeder.kept filters old _ refl refl refl (left.goes c.if-self-eq0.false) c.if-self-eq0.false;
 }

@@ -19,37 +19,54 @@ asked-turn-requires-clause-delay g c = record {
   client = search rules;
   mix = c.args.self.now.serves.device.mix_rate;
   place = c.requires.here;
-  at = asked-here c.args.tables.now c.args.here c.args.self.now c.rate-rate.result c.plan.result.now c.requires.planned c.rate-rate.ensures.value c.plan.ensures c.requires.at;
+  at = asked-here c.args.tables.now c.args.here c.args.self.now c.rate-rate.result c.plan.result.now c.requires.planned
+      c.rate-rate.ensures.value c.plan.ensures c.requires.at;
 }
 
 pub begin-requires : goal.begin-requires
 begin-requires g c =
     let old = c.args.self.now in
-    let left = book-asked c.args.here c.args.request old c.asked-turn.result c.rate-rate.result c.plan.result.now c.asked-turn.ensures c.rate-rate.ensures.value c.plan.ensures in
-    record { can = record { device = old.serves.device; rate = left.rate; fragments = left.safe.fragments; room = old.serves.room; kinds = c.requires.kinds } }
+    let left = book-asked c.args.here c.args.request old c.asked-turn.result c.rate-rate.result c.plan.result.now c.asked-turn.ensures
+    c.rate-rate.ensures.value c.plan.ensures in
+    record {
+      can = record {
+        device = old.serves.device;
+        rate = left.rate;
+        fragments = left.safe.fragments;
+        room = old.serves.room;
+        kinds = c.requires.kinds;
+      };
+    }
 
 pub invariant_of-self : goal.invariant_of-self
 invariant_of-self g c =
     let old = c.args.self.now in
-    let left = book-asked c.args.here c.args.request old c.asked-turn.result c.rate-rate.result c.plan.result.now c.asked-turn.ensures c.rate-rate.ensures.value c.plan.ensures in
+    let left = book-asked c.args.here c.args.request old c.asked-turn.result c.rate-rate.result c.plan.result.now c.asked-turn.ensures
+    c.rate-rate.ensures.value c.plan.ensures in
     let none = left.ended c.if-self-eq0.true in
     record {
       serves = c.begin.ensures.serves;
       fill = ap length c.begin.ensures.empty.ring ∙ none.3;
       within = none.2;
-      safe = subst (λ (p : PlanSeen). PlayIsSafe (rate_in_plan p) c.asked-turn.result.book) (sym (c.begin.ensures.planned.plan_is ∙ ap (λ (d : Device). play_plan_between (seen c.args.tables.now d) c.asked-turn.result.book.opening.settings) c.begin.ensures.device))
-          (safe-asked c.args.tables.now c.args.here c.args.request old c.asked-turn.result (device-is c.args.tables.now old.path.device old.serves.device c.begin.ensures.planned.limits) c.requires.planned
-          (asked-is c.args.tables.now c.args.here c.args.request old c.asked-turn.result c.rate-rate.result c.plan.result.now c.requires.planned c.asked-turn.ensures c.rate-rate.ensures.value c.plan.ensures));
+      safe = subst (λ (p : PlanSeen). PlayIsSafe (rate_in_plan p) c.asked-turn.result.book)
+          (sym (c.begin.ensures.planned.plan_is ∙ ap
+          (λ (d : Device). play_plan_between (seen c.args.tables.now d) c.asked-turn.result.book.opening.settings) c.begin.ensures.device))
+          (safe-asked c.args.tables.now c.args.here c.args.request old c.asked-turn.result
+          (device-is c.args.tables.now old.path.device old.serves.device c.begin.ensures.planned.limits) c.requires.planned
+          (asked-is c.args.tables.now c.args.here c.args.request old c.asked-turn.result c.rate-rate.result c.plan.result.now
+          c.requires.planned c.asked-turn.ensures c.rate-rate.ensures.value c.plan.ensures));
     }
 
 pub invariant_of-self-else-self-eq0 : goal.invariant_of-self-else-self-eq0
 invariant_of-self-else-self-eq0 g c =
     let old = c.args.self.now in
-    let left = book-asked c.args.here c.args.request old c.asked-turn.result c.rate-rate.result c.plan.result.now c.asked-turn.ensures c.rate-rate.ensures.value c.plan.ensures in
+    let left = book-asked c.args.here c.args.request old c.asked-turn.result c.rate-rate.result c.plan.result.now c.asked-turn.ensures
+    c.rate-rate.ensures.value c.plan.ensures in
     let go = left.goes c.if-self-eq0.false in
     let size : frame_bytes c.asked-turn.result.book.opening.settings ≡ frame_bytes old.book.opening.settings = ap frame_bytes go.settings in
     record {
-      serves = serves-as old.book.opening c.asked-turn.result.book.opening old.path old.path old.path.ring.bytes refl refl refl go.settings go.fragments old.serves;
+      serves = serves-as old.book.opening c.asked-turn.result.book.opening old.path old.path old.path.ring.bytes refl refl refl go.settings
+          go.fragments old.serves;
       fill = old.fill ∙ sym (rw (go.written, go.eaten, size) refl);
       within = rw (go.eaten, size, go.written) old.within;
       safe = left.safe;
@@ -58,9 +75,11 @@ invariant_of-self-else-self-eq0 g c =
 pub returns-then-self-eq0 : goal.returns-then-self-eq0
 returns-then-self-eq0 g c =
     let old = c.args.self.now in
-    let left = book-asked c.args.here c.args.request old c.asked-turn.result c.rate-rate.result c.plan.result.now c.asked-turn.ensures c.rate-rate.ensures.value c.plan.ensures in
+    let left = book-asked c.args.here c.args.request old c.asked-turn.result c.rate-rate.result c.plan.result.now c.asked-turn.ensures
+    c.rate-rate.ensures.value c.plan.ensures in
     let none = left.ended c.if-self-eq0.true in
-    let asked = asked-is c.args.tables.now c.args.here c.args.request old c.asked-turn.result c.rate-rate.result c.plan.result.now c.requires.planned c.asked-turn.ensures c.rate-rate.ensures.value c.plan.ensures in
+    let asked = asked-is c.args.tables.now c.args.here c.args.request old c.asked-turn.result c.rate-rate.result c.plan.result.now
+    c.requires.planned c.asked-turn.ensures c.rate-rate.ensures.value c.plan.ensures in
     record {
       book = ap (λ (t : Turn PlayBook). t.book) asked;
       reply = sym c.in_ok-answer.was ∙ ap (λ (t : Turn PlayBook). t.reply) asked;
@@ -73,24 +92,29 @@ returns-then-self-eq0 g c =
 pub returns-else-self-eq0 : goal.returns-else-self-eq0
 returns-else-self-eq0 g c =
     let old = c.args.self.now in
-    let left = book-asked c.args.here c.args.request old c.asked-turn.result c.rate-rate.result c.plan.result.now c.asked-turn.ensures c.rate-rate.ensures.value c.plan.ensures in
-    let asked = asked-is c.args.tables.now c.args.here c.args.request old c.asked-turn.result c.rate-rate.result c.plan.result.now c.requires.planned c.asked-turn.ensures c.rate-rate.ensures.value c.plan.ensures in
+    let left = book-asked c.args.here c.args.request old c.asked-turn.result c.rate-rate.result c.plan.result.now c.asked-turn.ensures
+    c.rate-rate.ensures.value c.plan.ensures in
+    let asked = asked-is c.args.tables.now c.args.here c.args.request old c.asked-turn.result c.rate-rate.result c.plan.result.now
+    c.requires.planned c.asked-turn.ensures c.rate-rate.ensures.value c.plan.ensures in
     record {
       book = ap (λ (t : Turn PlayBook). t.book) asked;
       reply = sym c.in_ok-answer.was ∙ ap (λ (t : Turn PlayBook). t.reply) asked;
       device = refl;
       refused = search rules;
-      moves = moves-state g.B.Feeder.kind g.B.Feeder.kept c.args.tables.now old _ refl refl refl (left.goes c.if-self-eq0.false) c.if-self-eq0.false;
+      moves = moves-state g.B.Feeder.kind g.B.Feeder.kept c.args.tables.now old _ refl refl refl (left.goes c.if-self-eq0.false)
+          c.if-self-eq0.false;
     }
 
 -- what is refused leaves the book
 pub returns-in_err-answer : goal.returns-in_err-answer
 returns-in_err-answer g c =
     let old = c.args.self.now in
-    let asked = asked-is c.args.tables.now c.args.here c.args.request old c.asked-turn.result c.rate-rate.result c.plan.result.now c.requires.planned c.asked-turn.ensures c.rate-rate.ensures.value c.plan.ensures in
+    let asked = asked-is c.args.tables.now c.args.here c.args.request old c.asked-turn.result c.rate-rate.result c.plan.result.now
+    c.requires.planned c.asked-turn.ensures c.rate-rate.ensures.value c.plan.ensures in
     let told = ap (λ (t : Turn PlayBook). t.reply) (sym asked) ∙ c.in_err-answer.was in
     record {
-      book = sym (ask-refused (play_rate_at (seen c.args.tables.now old.path.device) old.book) old.path.device.mix.rate c.args.here c.args.request old.book c.in_err-answer.field-0.0 told);
+      book = sym (ask-refused (play_rate_at (seen c.args.tables.now old.path.device) old.book) old.path.device.mix.rate c.args.here
+          c.args.request old.book c.in_err-answer.field-0.0 told);
       reply = search rules;
       device = refl;
       refused = search rules;

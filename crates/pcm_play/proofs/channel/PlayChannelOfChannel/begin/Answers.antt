@@ -10,6 +10,8 @@ returns g c =
     record {
       device_same = c.begin.ensures.device;
       book = begun;
-      moves = moves-ended g.B.Feeder.kind g.B.Feeder.kept c.args.tables.now _ 0 c.args.self.now _ c.begin.ensures.kinds (λ p used. c.begin.ensures.planned)
-          (ap (λ (b : PlayBook). b.written) begun) (ap (λ (b : PlayBook). b.eaten) begun) (ap (λ (b : PlayBook). b.given) begun) c.begin.ensures.empty (omega (arith, done));
+      moves = moves-ended g.B.Feeder.kind g.B.Feeder.kept c.args.tables.now _ 0 c.args.self.now _ c.begin.ensures.kinds
+          (λ p used. c.begin.ensures.planned)
+          (ap (λ (b : PlayBook). b.written) begun) (ap (λ (b : PlayBook). b.eaten) begun) (ap (λ (b : PlayBook). b.given) begun)
+          c.begin.ensures.empty (omega (arith, done));
     }

@@ -13,7 +13,8 @@ returns g c =
         book = ap (λ (b : PlayBook). record b { state = Free }) begun;
         kinds = c.begin.ensures.kinds;
         planned = c.begin.ensures.planned;
-        stands = stands-empty g.B.Feeder.kept c.args.tables.now _ (ap (λ (b : PlayBook). b.written) begun) (ap (λ (b : PlayBook). b.eaten) begun) (ap (λ (b : PlayBook). b.given) begun) c.begin.ensures.empty;
+        stands = stands-empty g.B.Feeder.kept c.args.tables.now _ (ap (λ (b : PlayBook). b.written) begun)
+            (ap (λ (b : PlayBook). b.eaten) begun) (ap (λ (b : PlayBook). b.given) begun) c.begin.ensures.empty;
       };
       boxes = c.begin.ensures.marks ∙ c.in_ok-path.ensures.boxes;
     }

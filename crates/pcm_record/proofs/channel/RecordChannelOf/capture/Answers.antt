@@ -16,36 +16,51 @@ use Rattle.pcm_record.proofs.Moving.{device-is, moves-nothing, safe-at}
 use Rattle.pcm_record.proofs.Capturing.{book-captured, captured-at, fill-captured, given-most, kept-most, moves-captured, push-captured, pushed-count, pushed-is, rate-pushed}
 use Rattle.pcm_record.proofs.channel.RecordChannelOf.capture.Goals as goal
 
-pub push-requires-clause-tables : goal.push-requires-clause-tables
-push-requires-clause-tables g c =
+pub push-requires-clause-can : goal.push-requires-clause-can
+push-requires-clause-can g c =
     let old = c.args.self.now in
     let planned = c.requires.planned (running-held c.args.self.now.book.state (sym c.if-not-is_running.ensures)) in
-    subst (λ (p : PlanSeen). HaveTables p.stages c.args.tables.now) (sym planned.plan_is)
-    (record-tables-between (seen c.args.tables.now old.path.device) old.book.opening.settings (device-is c.args.tables.now old planned) old.serves.rate)
-
-pub push-requires-clause-bits : goal.push-requires-clause-bits
-push-requires-clause-bits g c =
-    let old = c.args.self.now in
-    let planned = c.requires.planned (running-held c.args.self.now.book.state (sym c.if-not-is_running.ensures)) in
-    subst (λ (p : PlanSeen). GivesBitsOf old.book.opening.settings.format p c.args.tables.now) (sym planned.plan_is)
-    (record-bits-between (seen c.args.tables.now old.path.device) old.book.opening.settings (device-is c.args.tables.now old planned) old.serves.rate)
+    record {
+      records = search rules;
+      filters = subst (λ (p : PlanSeen). HaveTables p.stages c.args.tables.now) (sym planned.plan_is)
+          (record-tables-between (seen c.args.tables.now old.path.device) old.book.opening.settings
+          (device-is c.args.tables.now old planned) old.serves.rate);
+      bits = subst (λ (p : PlanSeen). GivesBitsOf old.book.opening.settings.format p c.args.tables.now) (sym planned.plan_is)
+          (record-bits-between (seen c.args.tables.now old.path.device) old.book.opening.settings (device-is c.args.tables.now old planned)
+          old.serves.rate);
+    }
 
 pub push-requires-clause-few : goal.push-requires-clause-few
 push-requires-clause-few g c =
-    omega (arith, pushed-count c.args.tables.now c.args.self.now c.args.frames c.args.input.now (c.requires.planned (running-held c.args.self.now.book.state (sym c.if-not-is_running.ensures))) c.requires.whole, c.requires.few)
+    omega (
+      arith,
+      pushed-count c.args.tables.now c.args.self.now c.args.frames c.args.input.now
+          (c.requires.planned (running-held c.args.self.now.book.state (sym c.if-not-is_running.ensures))) c.requires.whole,
+      c.requires.few,
+    )
 
 pub captured-self-requires : goal.captured-self-requires
 captured-self-requires g c =
     let old = c.args.self.now in
     let tables = c.args.tables.now in
     let planned = c.requires.planned (running-held c.args.self.now.book.state (sym c.if-not-is_running.ensures)) in
-    let rate = rate-pushed tables old c.push.new.self c.rate-rate.result c.plan.result.now planned c.rate-rate.ensures.value c.plan.ensures c.push.ensures.plan in
-    let more = given-most (seen tables old.path.device) c.args.frames old.book (device-is tables old planned) old.serves.rate (safe-at tables old planned) c.requires.count.given in
-    let most = kept-most (seen tables old.path.device) c.args.frames old.book (sym c.if-not-is_running.ensures) (safe-at tables old planned) in
+    let rate = rate-pushed tables old c.push.new.self c.rate-rate.result c.plan.result.now planned c.rate-rate.ensures.value c.plan.ensures
+    c.push.ensures.stays.plan in
+    let more = given-most (seen tables old.path.device) c.args.frames old.book (device-is tables old planned) old.serves.rate
+    (safe-at tables old planned) c.requires.count.given in
+    let most = kept-most (seen tables old.path.device) c.args.frames old.book (sym c.if-not-is_running.ensures)
+    (safe-at tables old planned) in
     record {
-      keeps = record { ratio = c.rate-rate.ensures.ratio; captured = c.requires.count.captured; read = old.within; fill = old.safe.fill; fragments = old.safe.fragments };
+      keeps = record {
+        ratio = c.rate-rate.ensures.ratio;
+        captured = c.requires.count.captured;
+        read = old.within;
+        fill = old.safe.fill;
+        fragments = old.safe.fragments;
+      };
       given = subst (λ (r : Rate). old.book.given + coming r c.args.frames old.book < 2 ^ 64) (sym rate) more;
-      kept = subst (λ (r : Rate). old.book.kept + keeping r c.args.frames old.book * frame_bytes old.book.opening.settings < 2 ^ 64) (sym rate) (omega (arith, most, c.requires.kept));
+      kept = subst (λ (r : Rate). old.book.kept + keeping r c.args.frames old.book * frame_bytes old.book.opening.settings < 2 ^ 64)
+          (sym rate) (omega (arith, most, c.requires.kept));
     }
 
 pub invariant_of-self : goal.invariant_of-self
@@ -56,16 +71,22 @@ invariant_of-self g c =
     let planned = c.requires.planned (running-held c.args.self.now.book.state (sym c.if-not-is_running.ensures)) in
     let some = c.requires.stands in
     let new = c.captured-self.result in
-    let rate = rate-pushed tables old c.push.new.self c.rate-rate.result c.plan.result.now planned c.rate-rate.ensures.value c.plan.ensures c.push.ensures.plan in
-    let p = push-captured g.B.Feeder.kept tables old c.args.frames c.args.input.now c.push.new.self c.push.result c.push.new.ring.bytes some.bytes some.frames planned c.requires.whole c.push.ensures.kept
+    let rate = rate-pushed tables old c.push.new.self c.rate-rate.result c.plan.result.now planned c.rate-rate.ensures.value c.plan.ensures
+    c.push.ensures.stays.plan in
+    let p = push-captured g.B.Feeder.kept tables old c.args.frames c.args.input.now c.push.new.self c.push.result c.push.new.ring.bytes
+    some.bytes some.frames planned c.requires.whole c.push.ensures.kept
     (c.push.ensures.pushes some.frames (some.stands.records (running-held old.book.state (sym c.if-not-is_running.ensures)))) some.stands in
-    let b = book-captured device c.args.frames old.book c.captured-self.result (sym c.if-not-is_running.ensures) (safe-at tables old planned)
-    (captured-at (seen tables old.path.device) c.args.frames old.book c.captured-self.result c.rate-rate.result rate c.captured-self.ensures) in
+    let b = book-captured device c.args.frames old.book c.captured-self.result (sym c.if-not-is_running.ensures)
+    (safe-at tables old planned)
+    (captured-at (seen tables old.path.device) c.args.frames old.book c.captured-self.result c.rate-rate.result rate
+    c.captured-self.ensures) in
     record {
-      serves = serves-as old.book.opening new.opening old.path (record old.path { ring = c.push.new.ring; chain = c.push.new.self }) _ refl c.push.ensures.plan c.push.ensures.ring b.settings b.fragments old.serves;
-      fill = fill-captured g.B.Feeder.kept tables old new c.args.frames some.frames _ c.push.new.self c.push.result c.push.new.ring.bytes planned c.push.ensures.plan b p;
+      serves = serves-as old.book.opening new.opening old.path (record old.path { ring = c.push.new.ring; chain = c.push.new.self }) _ refl
+          c.push.ensures.stays.plan c.push.ensures.ring b.settings b.fragments old.serves;
+      fill = fill-captured g.B.Feeder.kept tables old new c.args.frames some.frames _ c.push.new.self c.push.result c.push.new.ring.bytes
+          planned c.push.ensures.stays.plan b p;
       within = b.safe.read;
-      safe = subst (λ (q : PlanSeen). RecordIsSafe (rate_in_plan q) new) (sym (c.push.ensures.plan ∙ planned.plan_is)) b.safe;
+      safe = subst (λ (q : PlanSeen). RecordIsSafe (rate_in_plan q) new) (sym (c.push.ensures.stays.plan ∙ planned.plan_is)) b.safe;
     }
 
 pub returns-then-not-is_running : goal.returns-then-not-is_running
@@ -82,8 +103,10 @@ returns g c = record {
       let old = c.args.self.now in
       let tables = c.args.tables.now in
       let planned = c.requires.planned (running-held c.args.self.now.book.state (sym c.if-not-is_running.ensures)) in
-      let rate = rate-pushed tables old c.push.new.self c.rate-rate.result c.plan.result.now planned c.rate-rate.ensures.value c.plan.ensures c.push.ensures.plan in
-      captured-at (seen tables old.path.device) c.args.frames old.book c.captured-self.result c.rate-rate.result rate c.captured-self.ensures);
+      let rate = rate-pushed tables old c.push.new.self c.rate-rate.result c.plan.result.now planned c.rate-rate.ensures.value
+      c.plan.ensures c.push.ensures.stays.plan in
+      captured-at (seen tables old.path.device) c.args.frames old.book c.captured-self.result c.rate-rate.result rate
+      c.captured-self.ensures);
   device = refl;
   moves = (
       let old = c.args.self.now in
@@ -92,13 +115,17 @@ returns g c = record {
       let planned = c.requires.planned (running-held c.args.self.now.book.state (sym c.if-not-is_running.ensures)) in
       let some = c.requires.stands in
       let input = frames_of (channels_of old.path.device.settings.layout) c.args.input.now in
-      let rate = rate-pushed tables old c.push.new.self c.rate-rate.result c.plan.result.now planned c.rate-rate.ensures.value c.plan.ensures c.push.ensures.plan in
+      let rate = rate-pushed tables old c.push.new.self c.rate-rate.result c.plan.result.now planned c.rate-rate.ensures.value
+      c.plan.ensures c.push.ensures.stays.plan in
       let all = pushed-is tables old c.args.input.now planned in
-      moves-captured g.B.Feeder.kind g.B.Feeder.kept tables old _ c.args.frames input c.push.result planned refl c.push.ensures.plan c.push.ensures.kinds
+      moves-captured g.B.Feeder.kind g.B.Feeder.kept tables old _ c.args.frames input c.push.result planned refl c.push.ensures.stays.plan
+      c.push.ensures.stays.kinds
       (ap length (sym all) ∙ pushed-count tables old c.args.frames c.args.input.now planned c.requires.whole)
       (subst (HaveBits 32) all c.push.ensures.fits)
       (book-captured device c.args.frames old.book c.captured-self.result (sym c.if-not-is_running.ensures) (safe-at tables old planned)
-      (captured-at (seen tables old.path.device) c.args.frames old.book c.captured-self.result c.rate-rate.result rate c.captured-self.ensures))
-      (λ bytes frames s. push-captured g.B.Feeder.kept tables old c.args.frames c.args.input.now c.push.new.self c.push.result c.push.new.ring.bytes bytes frames planned c.requires.whole c.push.ensures.kept
+      (captured-at (seen tables old.path.device) c.args.frames old.book c.captured-self.result c.rate-rate.result rate
+      c.captured-self.ensures))
+      (λ bytes frames s. push-captured g.B.Feeder.kept tables old c.args.frames c.args.input.now c.push.new.self c.push.result
+      c.push.new.ring.bytes bytes frames planned c.requires.whole c.push.ensures.kept
       (c.push.ensures.pushes frames (s.records (running-held old.book.state (sym c.if-not-is_running.ensures)))) s));
 }

@@ -13,14 +13,16 @@ pub invariant_of-self-clause-serves : goal.invariant_of-self-clause-serves
 invariant_of-self-clause-serves g c =
     let old = c.args.self.now in
     let closed = c.closed-self.ensures in
-    serves-as old.book.opening c.closed-self.result.opening old.path c.restart.new.self [] c.restart.ensures.device c.restart.ensures.plan c.restart.ensures.ring
+    serves-as old.book.opening c.closed-self.result.opening old.path c.restart.new.self [] c.restart.ensures.device c.restart.ensures.plan
+    c.restart.ensures.ring
     (ap (λ (b : RecordBook). b.opening.settings) closed) (ap (λ (b : RecordBook). b.opening.fragments) closed) old.serves
 
 pub invariant_of-self-clause-safe : goal.invariant_of-self-clause-safe
 invariant_of-self-clause-safe g c =
     let old = c.args.self.now in
     subst (λ (p : PlanSeen). RecordIsSafe (rate_in_plan p) c.closed-self.result) (sym c.restart.ensures.plan)
-    (subst (RecordIsSafe (rate_in_plan (plan_in old.path.chain))) (sym c.closed-self.ensures) (record-safe-closed (rate_in_plan (plan_in old.path.chain)) old.book old.safe))
+    (subst (RecordIsSafe (rate_in_plan (plan_in old.path.chain))) (sym c.closed-self.ensures)
+    (record-safe-closed (rate_in_plan (plan_in old.path.chain)) old.book old.safe))
 
 pub returns : goal.returns
 returns g c = record {
@@ -29,7 +31,12 @@ returns g c = record {
   moves = λ filters.
       let old = c.args.self.now in
       let closed = c.closed-self.ensures in
-      moves-ended g.B.Feeder.kind g.B.Feeder.kept filters old _ c.restart.ensures.kinds (λ p used. absurd (let clash : true ≡ false = sym (ap (λ (b : RecordBook). is_unheld b.state) closed) ∙ used in cc))
-      (record { captured_none = ap (λ (b : RecordBook). b.captured) closed; kept_none = ap (λ (b : RecordBook). b.kept) closed; read_none = ap (λ (b : RecordBook). b.read) closed })
+      moves-ended g.B.Feeder.kind g.B.Feeder.kept filters old _ c.restart.ensures.kinds
+      (λ p used. absurd (let clash : true ≡ false = sym (ap (λ (b : RecordBook). is_unheld b.state) closed) ∙ used in cc))
+      (record {
+        captured_none = ap (λ (b : RecordBook). b.captured) closed;
+        kept_none = ap (λ (b : RecordBook). b.kept) closed;
+        read_none = ap (λ (b : RecordBook). b.read) closed;
+      })
       c.restart.ensures.empty;
 }

@@ -14,7 +14,11 @@ returns g c =
         kinds = c.begin.ensures.kinds;
         planned = c.begin.ensures.planned;
         stands = stands-empty g.B.Feeder.kept c.args.tables.now _
-            (record { captured_none = ap (λ (b : RecordBook). b.captured) begun; kept_none = ap (λ (b : RecordBook). b.kept) begun; read_none = ap (λ (b : RecordBook). b.read) begun })
+            (record {
+              captured_none = ap (λ (b : RecordBook). b.captured) begun;
+              kept_none = ap (λ (b : RecordBook). b.kept) begun;
+              read_none = ap (λ (b : RecordBook). b.read) begun;
+            })
             c.begin.ensures.empty;
       };
       boxes = c.begin.ensures.marks ∙ c.in_ok-path.ensures.boxes;

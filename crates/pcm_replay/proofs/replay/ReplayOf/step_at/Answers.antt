@@ -8,8 +8,10 @@ use Rattle.pcm_replay.proofs.replay.ReplayOf.step_at.Goals as goal
 pub step-bytes-requires-clause-can : goal.step-bytes-requires-clause-can
 step-bytes-requires-clause-can g c = record {
   ready = c.requires.played.engine.ready;
-  room = handed-among (device_of c.args.self.now.engine) c.args.events.now c.args.at _ _ _ c.requires.there refl (c.deref_mut.ensures.len ∙ c.requires.played.room);
-  life = life-left g.B.Feeder.kind g.B.Feeder.kept c.args.self.now.engine _ c.args.pool.now c.args.events.now c.args.at _ c.requires.played.engine c.requires.events.fits c.requires.events.count c.requires.there;
+  room = handed-among (device_of c.args.self.now.engine) c.args.events.now c.args.at _ _ _ c.requires.there refl
+      (c.deref_mut.ensures.len ∙ c.requires.played.room);
+  life = life-left g.B.Feeder.kind g.B.Feeder.kept c.args.self.now.engine _ c.args.pool.now c.args.events.now c.args.at _
+      c.requires.played.engine c.requires.runs.fits c.requires.runs.count c.requires.there;
 }
 
 pub returns-clause-played : goal.returns-clause-played
@@ -45,7 +47,8 @@ returns-clause-next g c =
     let count = c.step-bytes.result in
     let size = c.write_line-line.result in
     let piece = take count c.step-bytes.new.out in
-    next-given g.B.Feeder.kind g.B.Feeder.kept replay (record replay { engine = c.step-bytes.new.self }) pool xs c.args.at _ piece _ _ c.step-bytes.new.reply c.requires.there
+    next-given g.B.Feeder.kind g.B.Feeder.kept replay (record replay { engine = c.step-bytes.new.self }) pool xs c.args.at _ piece _ _
+    c.step-bytes.new.reply c.requires.there
     (record {
       device = stepped.rules.device;
       ready = stepped.ready;
@@ -57,9 +60,11 @@ returns-clause-next g c =
       line_room = refl;
     })
     (ap (λ (bytes : List ℕ). take count bytes) (front _ c.step-bytes.new.out _ (c.step-bytes.auto.out ∙ c.deref_mut.ensures.len)))
-    (ap (λ (bytes : List ℕ). take size bytes) (front _ c.write_line-line.new.out _ (c.write_line-line.auto.out ∙ c.deref_mut-2.ensures.len)) ∙ c.write_line-line.ensures.line)
+    (ap (λ (bytes : List ℕ). take size bytes) (front _ c.write_line-line.new.out _ (c.write_line-line.auto.out ∙ c.deref_mut-2.ensures.len))
+    ∙ c.write_line-line.ensures.line)
     c.requires.played
 
 pub returns-clause-bytes : goal.returns-clause-bytes
 returns-clause-bytes g c =
-    handed-among (device_of c.args.self.now.engine) c.args.events.now c.args.at _ _ _ c.requires.there c.step-bytes.ensures.stepped.count c.requires.played.room
+    handed-among (device_of c.args.self.now.engine) c.args.events.now c.args.at _ _ _ c.requires.there c.step-bytes.ensures.stepped.count
+    c.requires.played.room

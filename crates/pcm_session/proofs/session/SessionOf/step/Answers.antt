@@ -5,7 +5,8 @@ use Rattle.pcm_session.proofs.session.SessionOf.step.Goals as goal
 pub step_with-count-requires : goal.step_with-count-requires
 step_with-count-requires g c =
     let engine = c.args.self.now.engine in
-    let can = can-step g.B.Feeder.kind g.B.Feeder.kept engine c.args.event.now c.args.bytes.now (length c.args.samples.now) c.args.out.now _ (sym c.if-not-takes.ensures) refl c.requires.ready in
+    let can = can-step g.B.Feeder.kind g.B.Feeder.kept engine c.args.event.now c.args.bytes.now (length c.args.samples.now) c.args.out.now _
+    (sym c.if-not-takes.ensures) refl c.requires.ready in
     record { samples = can.0; can = can.1 }
 
 pub returns-clause-step : goal.returns-clause-step

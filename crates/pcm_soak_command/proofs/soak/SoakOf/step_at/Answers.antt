@@ -21,11 +21,15 @@ returns g c =
     let block : c.deref.result.now ≡ c.step-count.new.out =
     c.deref.ensures.value ∙ front _ c.step-count.new.out _ (c.step-count.auto.out ∙ c.deref_mut.ensures.len) in
     let is : device_of soak.engine ≡ usual_device = c.requires.soaked.engine.device_is in
-    let count : c.step-count.result ≤ ring_room usual_device = handed-on (device_of soak.engine) pool xs c.args.at c.step-count.result _ is c.requires.events.fits c.requires.there stepped.count in
-    let room : length c.step-count.new.out ≡ ring_room usual_device = c.step-count.auto.out ∙ c.deref_mut.ensures.len ∙ c.requires.soaked.room in
+    let count : c.step-count.result ≤ ring_room usual_device = handed-on (device_of soak.engine) pool xs c.args.at c.step-count.result _ is
+    c.requires.runs.fits c.requires.there stepped.count in
+    let room : length c.step-count.new.out ≡ ring_room usual_device = c.step-count.auto.out ∙ c.deref_mut.ensures.len
+    ∙ c.requires.soaked.room in
     let size : length piece ≡ c.step-count.result = length-take-le c.step-count.result c.step-count.new.out (omega (arith, count, room)) in
-    let heard : total (take c.step-count.result c.deref.result.now) ≡ total piece = ap (λ (bytes : List ℕ). total (take c.step-count.result bytes)) block in
-    let sizes : length (take c.step-count.result c.deref.result.now) ≡ length piece = ap (λ (bytes : List ℕ). length (take c.step-count.result bytes)) block in
+    let heard : total (take c.step-count.result c.deref.result.now) ≡ total piece = ap
+    (λ (bytes : List ℕ). total (take c.step-count.result bytes)) block in
+    let sizes : length (take c.step-count.result c.deref.result.now) ≡ length piece = ap
+    (λ (bytes : List ℕ). length (take c.step-count.result bytes)) block in
     record {
       soaked = subst (HasSoaked g.B.Feeder.kind g.B.Feeder.kept _ pool) (sym (take_more xs c.args.at _ c.requires.there))
           (soaked g.B.Feeder.kind g.B.Feeder.kept soak _ pool events _ piece c.step-count.new.reply c.count.new.self
@@ -57,9 +61,12 @@ slice_bounds-hear-end g c =
     let block : c.deref.result.now ≡ c.step-count.new.out =
     c.deref.ensures.value ∙ front _ c.step-count.new.out _ (c.step-count.auto.out ∙ c.deref_mut.ensures.len) in
     let is : device_of soak.engine ≡ usual_device = c.requires.soaked.engine.device_is in
-    let count : c.step-count.result ≤ ring_room usual_device = handed-on (device_of soak.engine) pool xs c.args.at c.step-count.result _ is c.requires.events.fits c.requires.there stepped.count in
-    let room : length c.step-count.new.out ≡ ring_room usual_device = c.step-count.auto.out ∙ c.deref_mut.ensures.len ∙ c.requires.soaked.room in
-    let size : length (take c.step-count.result c.step-count.new.out) ≡ c.step-count.result = length-take-le c.step-count.result c.step-count.new.out (omega (arith, count, room)) in
+    let count : c.step-count.result ≤ ring_room usual_device = handed-on (device_of soak.engine) pool xs c.args.at c.step-count.result _ is
+    c.requires.runs.fits c.requires.there stepped.count in
+    let room : length c.step-count.new.out ≡ ring_room usual_device = c.step-count.auto.out ∙ c.deref_mut.ensures.len
+    ∙ c.requires.soaked.room in
+    let size : length (take c.step-count.result c.step-count.new.out) ≡ c.step-count.result = length-take-le c.step-count.result
+    c.step-count.new.out (omega (arith, count, room)) in
     sym (ap (λ (bytes : List ℕ). length (take c.step-count.result bytes)) block ∙ size)
 
 within : (count n m : ℕ) → count ≤ m → n ≡ m → count ≤ n
@@ -69,11 +76,13 @@ within count n m less same = omega (arith, less, same)
 pub step-count-requires-clause-can : goal.step-count-requires-clause-can
 step-count-requires-clause-can g c =
     let soaked = c.requires.soaked in
-    let events = c.requires.events in
+    let events = c.requires.runs in
     let device = device_of c.args.self.now.engine in
     let room : length c.deref_mut.result.now ≡ ring_room usual_device = c.deref_mut.ensures.len ∙ soaked.room in
     record {
       ready = soaked.engine.ready;
-      room = within _ _ _ (handed-on device c.args.pool.now c.args.events.now c.args.at _ _ soaked.engine.device_is events.fits c.requires.there refl) room;
-      life = life-left g.B.Feeder.kind g.B.Feeder.kept c.args.self.now.engine _ c.args.pool.now c.args.events.now c.args.at _ soaked.engine events.fits (omega (arith, events.count)) c.requires.there;
+      room = within _ _ _ (handed-on device c.args.pool.now c.args.events.now c.args.at _ _ soaked.engine.device_is events.fits
+          c.requires.there refl) room;
+      life = life-left g.B.Feeder.kind g.B.Feeder.kept c.args.self.now.engine _ c.args.pool.now c.args.events.now c.args.at _ soaked.engine
+          events.fits (omega (arith, events.count)) c.requires.there;
     }

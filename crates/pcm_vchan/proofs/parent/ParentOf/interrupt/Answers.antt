@@ -1,10 +1,10 @@
 use Rattle.std.proofs.Common.{◌≡◌, ◌<◌, ◌≤◌, ◌+◌, ℕ, All, refl, sym, ap, ◌∙◌, subst, arith}
 use Rattle.pcm_sequence.specs.declared.fixed.Fixed.{Fixed}
 use Rattle.pcm_feeder.specs.declared.kind.Kind.{Kind}
-use Rattle.pcm_feeder.specs.Filters.{Filters}
-use Rattle.pcm_feeder.specs.Kept.{Kept}
 use Rattle.pcm_desk.specs.declared.device.Device.{Device}
 use Rattle.pcm_desk.specs.declared.here.Here.{Here}
+use Rattle.pcm_feeder.specs.Filters.{Filters}
+use Rattle.pcm_feeder.specs.Kept.{Kept}
 use Rattle.pcm_desk.specs.declared.limits.TheConstants.{MIX_FRAMES}
 use Rattle.pcm_desk.specs.Device.{mix_frames, passed_for, seen, unfiltered}
 use Rattle.pcm_desk.specs.Channels.{mixed_by}
@@ -18,11 +18,13 @@ use Rattle.pcm_vchan.proofs.Counting.{AreCounted, counted}
 use Rattle.pcm_vchan.proofs.parent.ParentOf.interrupt.Goals as goal
 
 -- the counts have room
-roomy : {B : Type 0} {kind : B → Kind} {kept : B → Kept} {filters : Filters} {n : ℕ} {old : ParentOf B} → 0 < n → n ≤ old.device.ring_frames → AreDue kind kept filters n old → HasRoomFor n old → AreCounted (seen filters old.device) old.mixed old.handed n
+roomy : {B : Type 0} {kind : B → Kind} {kept : B → Kept} {filters : Filters} {n : ℕ} {old : ParentOf B} → 0 < n → n ≤ old.device.ring_frames
+    → AreDue kind kept filters n old → HasRoomFor n old → AreCounted (seen filters old.device) old.mixed old.handed n
 roomy {filters = filters} {n = n} {old = old} some within due room =
     let few = subst (λ (device : Device). mix_frames (unfiltered device) ≤ MIX_FRAMES) old.bus_of old.bus.mix_within in
     let ring = old.within in
-    counted (seen filters old.device) old.mixed old.handed n due.bus.planned.limits some within (omega (arith, few)) (omega (arith, ring)) due.bus.level room
+    counted (seen filters old.device) old.mixed old.handed n due.bus.planned.limits some within (omega (arith, few)) (omega (arith, ring))
+    due.bus.level room
 
 -- as many are mixed as the parent's device needs
 bus-mixes : {B : Type 0} (filters : Filters) (n result : ℕ) (old : ParentOf B)
@@ -81,15 +83,20 @@ pass-requires-clause-due g c =
     (bus-leaves (PlayMixes g.B.Feeder.kind g.B.Feeder.kept c.args.tables.now) c.args.tables.now c.args.n _ _ c.args.self.now _ _
     c.here-before.ensures c.turn-mixed.ensures.count c.turn-mixed.ensures.mixed)
 
-passed : (g : _) (c : goal.After-pass g) → Each (IsPassed g.B.Feeder.kind g.B.Feeder.kept c.args.tables.now c.args.self.now.device c.args.self.now.handed c.args.n (mixed_in c.args.tables.now c.args.n c.args.self.now))
+passed : (g : _) (c : goal.After-pass g)
+    → Each (IsPassed g.B.Feeder.kind g.B.Feeder.kept c.args.tables.now c.args.self.now.device c.args.self.now.handed c.args.n
+    (mixed_in c.args.tables.now c.args.n c.args.self.now))
     (play_channels c.args.self.now) (play_channels c.pass.new.self)
 passed g c =
     let old = c.args.self.now in
     let m = bus-leaves (PlayMixes g.B.Feeder.kind g.B.Feeder.kept c.args.tables.now) c.args.tables.now c.args.n _ _ old _ _
     c.here-before.ensures c.turn-mixed.ensures.count c.turn-mixed.ensures.mixed in
-    let told : passed_for (unfiltered c.pass.new.self.device) c.pass.new.self.handed ≡ passed_for (unfiltered old.device) (old.handed + c.args.n) =
-    ap (λ (device : Device). passed_for (unfiltered device) c.pass.new.self.handed) c.pass.ensures.device ∙ ap (passed_for (unfiltered old.device)) c.pass.ensures.handed in
-    all-passed old.handed c.args.n (here_of c.pass.new.self) c.pass.new.self.channels refl c.requires.due.bus.level told c.requires.due.playing m
+    let told : passed_for (unfiltered c.pass.new.self.device) c.pass.new.self.handed ≡ passed_for (unfiltered old.device)
+    (old.handed + c.args.n) =
+    ap (λ (device : Device). passed_for (unfiltered device) c.pass.new.self.handed) c.pass.ensures.others.device
+    ∙ ap (passed_for (unfiltered old.device)) c.pass.ensures.handed in
+    all-passed old.handed c.args.n (here_of c.pass.new.self) c.pass.new.self.channels refl c.requires.due.bus.level told
+    c.requires.due.playing m
     c.pass.ensures.settled
 
 pub returns-clause-channels : goal.returns-clause-channels
@@ -102,7 +109,7 @@ pub returns-clause-maps : goal.returns-clause-maps
 returns-clause-maps g c =
     let t = bus-leaves (MapMixes g.B.Feeder.kind g.B.Feeder.kept c.args.tables.now) c.args.tables.now c.args.n _ _ c.args.self.now _ _
     c.here-before.ensures c.turn-mixed.ensures.count c.turn-mixed.ensures.taken in
-    rw c.pass.ensures.maps (λ slot other there. (t.each slot other there).plays)
+    rw c.pass.ensures.others.maps (λ slot other there. (t.each slot other there).plays)
 
 pub returns-clause-mixed : goal.returns-clause-mixed
 returns-clause-mixed g c = c.pass.ensures.mixed
@@ -112,7 +119,7 @@ pub returns-clause-turns : goal.returns-clause-turns
 returns-clause-turns g c =
     let old = c.args.self.now in
     let new = c.turn-mixed.new in
-    rw (c.pass.ensures.bus, c.pass.ensures.ring)
+    rw (c.pass.ensures.others.bus, c.pass.ensures.others.ring)
     (subst (λ (device : Device). TurnsBus g.B.Feeder.kept (seen c.args.tables.now device) old.handed c.args.n old.mixer
     (play_channels old) (map_channels old) old.bus.chain new.self.chain old.ring.bytes new.ring.bytes) old.bus_of
     c.turn-mixed.ensures.turns)
@@ -127,8 +134,8 @@ returns-clause-bus g c =
     let handed = c.pass.ensures.handed in
     let count = bus-mixes c.args.tables.now c.args.n _ old c.turn-mixed.ensures.count in
     record {
-      planned = rw c.pass.ensures.bus stands.planned;
-      made = rw (c.pass.ensures.bus, handed) stands.made;
+      planned = rw c.pass.ensures.others.bus stands.planned;
+      made = rw (c.pass.ensures.others.bus, handed) stands.made;
       level = rw handed (omega
           (arith, mixed, count, mixed-behind (seen c.args.tables.now old.device) old.handed c.args.n stands.planned.limits, level));
     }

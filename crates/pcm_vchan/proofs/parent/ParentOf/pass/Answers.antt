@@ -12,4 +12,5 @@ returns-clause-settled g c =
     let old = c.args.self.now in
     let here : Here = record { mixed = old.mixed + c.args.mixed; passed = passed_for (unfiltered old.device) (old.handed + c.args.n) } in
     let is : c.here-here.result ≡ here = c.here-here.ensures in
-    subst (λ (at : Here). Each (PlayLeaves g.B.Feeder.kind g.B.Feeder.kept (SettlesBook at)) (play_channels old) (fixed_items c.walk.new.channels)) is c.walk.ensures.each
+    subst (λ (at : Here). Each (PlayLeaves g.B.Feeder.kind g.B.Feeder.kept (SettlesBook at)) (play_channels old)
+    (fixed_items c.walk.new.channels)) is c.walk.ensures.each

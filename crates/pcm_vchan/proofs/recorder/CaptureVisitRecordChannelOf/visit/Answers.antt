@@ -7,5 +7,6 @@ use Rattle.pcm_vchan.proofs.recorder.CaptureVisitRecordChannelOf.visit.Goals as 
 pub returns : goal.returns
 returns g c =
     let capture = c.args.self.now in
-    subst (λ (device : Device). Captures g.B.Feeder.kind g.B.Feeder.kept (seen capture.tables.now device) capture.n capture.captured.now c.args.channel.now c.capture.new.self) c.requires.due.own
+    subst (λ (device : Device). Captures g.B.Feeder.kind g.B.Feeder.kept (seen capture.tables.now device) capture.n capture.captured.now
+    c.args.channel.now c.capture.new.self) c.requires.due.own
     (record { device_same = c.capture.ensures.device; book = c.capture.ensures.book; moves = c.capture.ensures.moves })

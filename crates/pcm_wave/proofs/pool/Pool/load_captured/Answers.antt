@@ -12,7 +12,8 @@ returns-in-Some-clause-loaded c =
     let same : c.settings.result ≡ settings_of file.wave = c.settings.ensures ∙ ap settings_of c.wave.ensures.value in
     c.load_from.ensures.loaded
     ∙ ap (λ (s : Settings). flat_map (frame_or_silence s c.body.result.now) (range_with_len c.args.from c.args.frames)) same
-    ∙ ap (λ (body : List ℕ). flat_map (frame_or_silence (settings_of file.wave) body) (range_with_len c.args.from c.args.frames)) c.body.ensures.bytes
+    ∙ ap (λ (body : List ℕ). flat_map (frame_or_silence (settings_of file.wave) body) (range_with_len c.args.from c.args.frames))
+    c.body.ensures.bytes
     ∙ captured-file c.args.layout c.args.self.now file c.args.from c.args.frames c.in-Some.ensures c.requires.captures
 
 pub returns-in-None-clause-loaded : goal.returns-in-None-clause-loaded

@@ -1,0 +1,24 @@
+-- The types that the rules of a channel speak of, under one name.
+pub use Rattle.pcm_rate.specs.declared.rate.Rate.{Rate}
+pub use Rattle.pcm_format.specs.declared.settings.Settings.{Settings}
+pub use Rattle.pcm_feeder.specs.declared.kind.Kind.{Kind}
+pub use Rattle.pcm_feeder.specs.declared.stage.Gain.{Gain}
+pub use Rattle.pcm_wave.specs.declared.pool.Pool.{Pool}
+pub use Rattle.pcm_oss.specs.declared.event.Event.{Event}
+pub use Rattle.pcm_oss.specs.declared.event.Way.{Way}
+pub use Rattle.pcm_oss.specs.declared.reply.Errno.{Errno}
+pub use Rattle.pcm_oss.specs.declared.reply.Answer.{Answer}
+pub use Rattle.pcm_oss.specs.declared.request.Request.{Request}
+pub use Rattle.pcm_group.specs.declared.sync_groups.Groups.{Groups}
+pub use Rattle.pcm_desk.specs.declared.device.Device.{Device}
+pub use Rattle.pcm_desk.specs.declared.device.Held.{Held}
+pub use Rattle.pcm_desk.specs.declared.here.Here.{Here}
+pub use Rattle.pcm_desk.specs.declared.map_book.MapBook.{MapBook}
+pub use Rattle.pcm_desk.specs.declared.opening.Opening.{Opening}
+pub use Rattle.pcm_desk.specs.declared.play_book.PlayBook.{PlayBook}
+pub use Rattle.pcm_desk.specs.declared.play_book.PlayState.{PlayState}
+pub use Rattle.pcm_desk.specs.declared.record_book.RecordBook.{RecordBook}
+pub use Rattle.pcm_desk.specs.declared.run_state.RunState.{RunState}
+pub use Rattle.pcm_desk.specs.declared.turn.Turn.{Turn}
+pub use Rattle.pcm_feeder.specs.Filters.{Filters}
+pub use Rattle.pcm_feeder.specs.Kept.{Kept}

@@ -1,7 +1,0 @@
-use Rattle.std.proofs.Common.{arith}
-use Rattle.pcm_report.proofs.Puts.{put-next}
-use Rattle.pcm_report.proofs.line.put_got.Goals as goal
-
-pub returns : goal.returns
-returns c =
-    record { put = rw (← c.from.ensures) (put-next (put-next (put-next c.put_text-at.ensures.put c.put_number-at.ensures.put) c.put_text-at-2.ensures.put) c.put_bytes.ensures.put); within = omega arith }
