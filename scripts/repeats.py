@@ -1,6 +1,7 @@
 """What stands more than once, and what is too long: the part of scripts/tidy-check that reads the code as text.
 
 - a whole contract of `CLAUSES` clauses or more stands word for word in fewer than `FUNCTIONS` functions
+- at most `SAME` clauses stand word for word in as many functions or more
 - a signature with its contract has at most `LINES` lines
 - two files of one kind share as many runs of `RUN` lines or more as scripts/repeats-most.txt has; no fewer, so that the number goes down
 - the first line of each commit, from the one on that added this file, is as scripts/commit-message has it
@@ -16,6 +17,8 @@ from reading import ROOT, closing, code_of, script_of, sources
 MOST = ROOT / "scripts" / "repeats-most.txt"
 MESSAGE = script_of("commit-message")
 CLAUSES, FUNCTIONS = 3, 3
+# how many clauses stand word for word in three functions or more; it may only go down
+SAME = 69
 # the lines of the longest signature that there is; it may only go down
 LINES = 30
 RUN = 6
@@ -59,6 +62,16 @@ def same_contracts(each):
     for found in places.values():
         if len(found) >= FUNCTIONS:
             yield f"{found[0]} has the contract of {', '.join(found[1:])}: give it a name in specs/"
+
+
+def same_clauses(each, most=SAME):
+    """The clauses that stand in many functions, where these are too many in all."""
+    places = collections.Counter(clause for _, _, clauses in each for clause in clauses)
+    found = {clause: count for clause, count in places.items() if count >= FUNCTIONS}
+    if sum(found.values()) > most:
+        yield f"{sum(found.values())} clauses stand in {FUNCTIONS} functions or more, and scripts/repeats.py has {most}:"
+        for clause, count in sorted(found.items(), key=lambda it: (-it[1], it[0])):
+            yield f"  {count} times {clause}"
 
 
 def long_signatures(each):
@@ -153,6 +166,7 @@ def trials():
     return (
         ("contracts", lambda past: list(same_contracts(each_of(*[clauses(CLAUSES)] * (FUNCTIONS - 1 + past))))),
         ("clauses", lambda past: list(same_contracts(each_of(*[clauses(CLAUSES - 1 + past)] * FUNCTIONS)))),
+        ("same clauses", lambda past: list(same_clauses(each_of(*[clauses(1)] * (FUNCTIONS - 1 + past)), 0))),
         ("signatures", lambda past: list(long_signatures(each_of(clauses(LINES - 1 + past))))),
         ("runs", lambda past: list(wrong_counts(".rt", 0, shared(RUN - 1 + past)))),
         ("fewer runs", lambda past: list(wrong_counts(".rt", 1, shared(RUN - past)))),
@@ -170,5 +184,5 @@ def failed_trials():
 
 def repeats():
     """What is wrong, by each check of this file and by its own trials."""
-    codes = (*same_contracts(functions()), *long_signatures(functions()), *repeated_runs())
+    codes = (*same_contracts(functions()), *same_clauses(functions()), *long_signatures(functions()), *repeated_runs())
     return [*failed_trials(), *codes, *wrong_subjects(subjects())]
