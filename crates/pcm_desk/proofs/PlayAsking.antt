@@ -1,15 +1,15 @@
 -- What a request does to a book that plays: it sets the opening up again, notes something, starts or stops the book, lets it play to
 -- its end, or drops its bytes.
 use Rattle.std.proofs.Common.{◌≡◌, ℕ, Bool, true, false, cond, ◌⊎◌, inl, inr, refl, arith}
-use Rattle.std.specs.Prelude.{nat_lt}
 use Rattle.pcm_oss.specs.declared.reply.Errno.TheVariants.{Busy, Inval}
 use Rattle.pcm_desk.specs.Types.{Here, Opening, PlayBook, Rate, Request}
 use Rattle.pcm_oss.specs.declared.request.Request.TheVariants.{GetOSpace, GetOPtr, GetODelay, GetError, SetTrigger, SetPlayVol, GetPlayVol, Post, Sync, Halt}
 use Rattle.pcm_oss.specs.Volumes.{is_volume}
-use Rattle.pcm_desk.specs.declared.play_requests.TheConstants.{PLAY_BIT}
+use Rattle.pcm_desk.specs.declared.trigger.TheConstants.{PLAY_BIT}
+use Rattle.pcm_desk.specs.Triggers.{has_other_bits, has_play_bit}
 use Rattle.pcm_desk.specs.PlayBooks.{drained_in, is_draining, is_play_setup, play_dropped, played_of}
 use Rattle.pcm_desk.specs.Openings as openings
-use Rattle.pcm_desk.specs.PlayRequests.{has_play_bit, play_ask, play_with_opening, play_roused_in, play_stopped_in, play_triggered, play_with_trigger, set_volume}
+use Rattle.pcm_desk.specs.PlayRequests.{play_ask, play_with_opening, play_roused_in, play_stopped_in, play_triggered, play_with_trigger, set_volume}
 use Rattle.pcm_desk.specs.BookTurns.{doing, refused}
 use Rattle.pcm_desk.proofs.Openings.{Sets, opening-ask-does}
 
@@ -64,7 +64,7 @@ set_trigger_in false false bits rate here book = trigger_in (has_play_bit bits) 
 pub ask-does : (rate : Rate) (mix_rate : ℕ) (here : Here) (request : Request) (book : PlayBook) → Does rate here request book (play_ask rate mix_rate here request book).book
 ask-does rate mix_rate here GetOPtr book = Noting (played_of book) book.volume book.underruns (record { told_is = inr refl; volume_is = λ v. v }) refl
 ask-does rate mix_rate here GetError book = Noting book.opening.told book.volume 0 (record { told_is = inl refl; volume_is = λ v. v }) refl
-ask-does rate mix_rate here (SetTrigger bits) book = set_trigger_in (nat_lt 3 bits) (is_draining book.state) bits rate here book
+ask-does rate mix_rate here (SetTrigger bits) book = set_trigger_in (has_other_bits bits) (is_draining book.state) bits rate here book
 ask-does rate mix_rate here (SetPlayVol volume) book = volume_in (is_volume volume) volume rate here (SetPlayVol volume) book refl
 ask-does rate mix_rate here Post book = post_in book.opening.trigger rate here Post book
 ask-does rate mix_rate here Sync book = Ending refl

@@ -1,6 +1,6 @@
 -- A channel, whatever its way: what each event does to it, and its reply. These rules are defined here alone; a desk finds the channel
 -- that a descriptor holds, and puts it back.
-use Rattle.std.specs.Prelude.{ℕ, zero, suc, ◌+◌, ◌-◌, Bool, true, false, not, nat_lt, if◌then◌else◌, Option, Some, None, Result, Ok, Err}
+use Rattle.std.specs.Prelude.{ℕ, zero, suc, ◌+◌, ◌-◌, Bool, true, false, not, if◌then◌else◌, Option, Some, None, Result, Ok, Err}
 use Rattle.pcm_format.specs.declared.settings.Settings.{Settings}
 use Rattle.pcm_oss.specs.declared.event.Event.{Event}
 use Rattle.pcm_oss.specs.declared.event.Event.TheVariants.{Open, Write, Poke, Read, Ioctl, Join, StartGroup, Close, Mixer, Intr}
@@ -18,11 +18,10 @@ use Rattle.pcm_desk.specs.declared.play_book.PlayState.TheVariants.{Free, Draini
 use Rattle.pcm_desk.specs.declared.record_book.RecordBook.{RecordBook}
 use Rattle.pcm_desk.specs.declared.map_book.MapBook.{MapBook}
 use Rattle.pcm_desk.specs.declared.here.Here.{Here}
-use Rattle.pcm_desk.specs.declared.play_requests.TheConstants.{PLAY_BIT}
-use Rattle.pcm_desk.specs.declared.record_requests.TheConstants.{RECORD_BIT}
 use Rattle.pcm_desk.specs.declared.turn.Turn.{Turn}
 use Rattle.pcm_desk.specs.Device.{DeviceSeen, here_at, mix_settings, mixed_for, passed_for, play_rate_between, record_rate_between}
 use Rattle.pcm_desk.specs.BookTurns.{doing, refused, telling}
+use Rattle.pcm_desk.specs.Triggers.{both_bits, has_other_bits}
 use Rattle.pcm_desk.specs.PlayBooks.{close_turn, is_play_free, is_play_setup, play_begun, play_settled, refilled, write_turn}
 use Rattle.pcm_desk.specs.PlayRequests.{play_ask}
 use Rattle.pcm_desk.specs.RecordBooks as records
@@ -132,7 +131,7 @@ ungrouped = record { member = false; joins = λ group. Err Busy }
 
 -- a member's trigger can't be set: it starts with its group
 abbrev pub member_refusal : Bool → Request → Option Errno
-member_refusal true (SetTrigger bits) = Some (if nat_lt 3 bits then Inval else Busy)
+member_refusal true (SetTrigger bits) = Some (if has_other_bits bits then Inval else Busy)
 member_refusal member request = None
 
 -- a request, unless it is refused
@@ -149,10 +148,6 @@ join_result (Ok group) resting = if resting then Ok group else Err Busy
 abbrev pub own_join : DeviceSeen → Here → Result ℕ Errno → Channel → Turn Channel
 own_join device here (Err errno) channel = refused errno channel
 own_join device here (Ok group) channel = telling (Number group) (own_ioctl device here (SetTrigger 0) channel).book
-
--- the bits of both ways, by which a trigger is set on
-abbrev pub both_bits : ℕ
-both_bits = PLAY_BIT + RECORD_BIT
 
 -- a member that starts has its trigger set on
 abbrev pub play_starting : DeviceSeen → Here → PlayBook → PlayBook

@@ -2,6 +2,7 @@ pub mod Here
 pub mod Device
 pub mod Usual
 pub mod BookTurns
+pub mod Triggers
 pub mod Openings
 pub mod PlayBooks
 pub mod PlayRequests

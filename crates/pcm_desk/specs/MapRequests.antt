@@ -6,7 +6,7 @@ use Rattle.pcm_oss.specs.declared.request.Request.{Request}
 use Rattle.pcm_oss.specs.declared.request.Request.TheVariants.{GetOPtr, GetError, SetPlayVol, GetPlayVol}
 use Rattle.pcm_oss.specs.Volumes.{is_volume}
 use Rattle.pcm_desk.specs.declared.map_book.MapBook.{MapBook}
-use Rattle.pcm_desk.specs.declared.play_requests.TheConstants.{PLAY_BIT}
+use Rattle.pcm_desk.specs.declared.trigger.TheConstants.{PLAY_BIT}
 use Rattle.pcm_desk.specs.declared.run_requests.RunAsked.{RunAsked}
 use Rattle.pcm_desk.specs.declared.run_requests.RunChange.{RunChange}
 use Rattle.pcm_desk.specs.declared.run_requests.RunChange.TheVariants.{Stays, Starts, Drops}

@@ -1,5 +1,5 @@
 -- What a client asks of a channel that plays: for each request, what it is refused for, or the book after it and the answer.
-use Rattle.std.specs.Prelude.{ℕ, ℤ, pos, ◌+◌, ◌*◌, ◌/◌, ◌-ℤ◌, nat_abs, Bool, ◌&&◌, true, false, nat_lt, nat_le, if◌then◌else◌}
+use Rattle.std.specs.Prelude.{ℕ, ℤ, pos, ◌+◌, ◌*◌, ◌/◌, ◌-ℤ◌, nat_abs, Bool, ◌&&◌, true, false, nat_lt, if◌then◌else◌}
 use Rattle.pcm_format.specs.Frames.{frame_bytes}
 use Rattle.pcm_oss.specs.declared.reply.Answer.TheVariants.{Number, Errors}
 use Rattle.pcm_oss.specs.declared.reply.Errno.TheVariants.{Busy, Inval}
@@ -12,12 +12,13 @@ use Rattle.pcm_desk.specs.declared.play_book.PlayBook.{PlayBook}
 use Rattle.pcm_desk.specs.declared.play_book.PlayState.{PlayState}
 use Rattle.pcm_desk.specs.declared.play_book.PlayState.TheVariants.{Primed, Running}
 use Rattle.pcm_desk.specs.declared.opening.Opening.{Opening}
-use Rattle.pcm_desk.specs.declared.play_requests.TheConstants.{PLAY_BIT}
+use Rattle.pcm_desk.specs.declared.trigger.TheConstants.{PLAY_BIT}
 use Rattle.pcm_desk.specs.declared.turn.Turn.{Turn}
 use Rattle.pcm_desk.specs.Openings as openings
 use Rattle.pcm_desk.specs.Openings.{space_of, tell_pointer, with_trigger}
 use Rattle.pcm_desk.specs.PlayBooks.{drained_in, frames_written, has_given_all, is_draining, is_play_setup, is_started, play_dropped, play_fill_of, play_free_of, played_of, started_at}
 use Rattle.pcm_desk.specs.BookTurns.{doing, refused, telling}
+use Rattle.pcm_desk.specs.Triggers.{has_other_bits, has_play_bit}
 
 -- what was done to the opening of a book
 abbrev pub play_with_opening : PlayBook → Turn Opening → Turn PlayBook
@@ -81,14 +82,10 @@ abbrev pub play_triggered : ℕ → Bool → PlayBook → PlayBook
 play_triggered mixed true book = play_roused_in mixed book.state (play_with_trigger true book)
 play_triggered mixed false book = play_stopped_in book.state (play_with_trigger false book)
 
--- the bit of a channel that plays, of the two bits that a number may have
-abbrev pub has_play_bit : ℕ → Bool
-has_play_bit bits = nat_le PLAY_BIT bits
-
 -- More than two bits are refused first, and then a draining book. The bit of the other way says nothing.
 abbrev pub play_set_trigger : ℕ → ℕ → PlayBook → Turn PlayBook
 play_set_trigger mixed bits book =
-    if nat_lt 3 bits then refused Inval book
+    if has_other_bits bits then refused Inval book
     else if is_draining book.state then refused Busy book
     else doing (play_triggered mixed (has_play_bit bits) book)
 

@@ -3,7 +3,7 @@ use Rattle.pcm_oss.specs.declared.reply.Answer.TheVariants.{Errors}
 use Rattle.pcm_oss.specs.declared.request.Request.{Request}
 use Rattle.pcm_oss.specs.declared.request.Request.TheVariants.{GetISpace, GetIPtr, GetError}
 use Rattle.pcm_desk.specs.declared.record_book.RecordBook.{RecordBook}
-use Rattle.pcm_desk.specs.declared.record_requests.TheConstants.{RECORD_BIT}
+use Rattle.pcm_desk.specs.declared.trigger.TheConstants.{RECORD_BIT}
 use Rattle.pcm_desk.specs.declared.run_requests.RunAsked.{RunAsked}
 use Rattle.pcm_desk.specs.declared.run_requests.RunChange.{RunChange}
 use Rattle.pcm_desk.specs.declared.run_requests.RunChange.TheVariants.{Stays, Starts, Drops}

@@ -1,5 +1,5 @@
 -- What is asked alike of a channel that records and of a mapped one: what it makes of the run, and of its opening.
-use Rattle.std.specs.Prelude.{ℕ, ◌/◌, ◌%◌, Bool, true, false, nat_lt, ◌==◌, if◌then◌else◌}
+use Rattle.std.specs.Prelude.{ℕ, Bool, true, false, if◌then◌else◌}
 use Rattle.pcm_oss.specs.declared.reply.Errno.TheVariants.{Inval}
 use Rattle.pcm_oss.specs.declared.request.Request.{Request}
 use Rattle.pcm_oss.specs.declared.request.Request.TheVariants.{SetTrigger, Post, Sync, Halt}
@@ -14,6 +14,7 @@ use Rattle.pcm_desk.specs.Openings as openings
 use Rattle.pcm_desk.specs.Openings.{with_trigger}
 use Rattle.pcm_desk.specs.RunStates.{is_in_setup}
 use Rattle.pcm_desk.specs.BookTurns.{doing, refused}
+use Rattle.pcm_desk.specs.Triggers.{has_bit, has_other_bits}
 
 -- its trigger was set: on, a run in Setup starts; off, one that runs drops what it has
 abbrev pub run_triggered : Bool → RunState → RunChange
@@ -32,14 +33,10 @@ run_doing change opening = doing (record { opening = opening; change = change })
 abbrev pub run_staying : Turn Opening → Turn RunAsked
 run_staying turn = record { book = record { opening = turn.book; change = Stays }; reply = turn.reply }
 
--- whether a number has the bit of a way
-abbrev pub has_bit : ℕ → ℕ → Bool
-has_bit bit bits = bits / bit % 2 == 1
-
 -- More than two bits are refused. The bit of the other way says nothing.
 abbrev pub run_set_trigger : ℕ → ℕ → RunState → Opening → Turn RunAsked
 run_set_trigger bit bits state opening =
-    if nat_lt 3 bits then run_staying (refused Inval opening)
+    if has_other_bits bits then run_staying (refused Inval opening)
     else run_doing (run_triggered (has_bit bit bits) state) (with_trigger (has_bit bit bits) opening)
 
 -- by the bit of its way; what isn't of a run alone is asked of every opening

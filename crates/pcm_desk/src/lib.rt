@@ -18,6 +18,7 @@ mod record_events;
 mod record_requests;
 mod run_requests;
 mod run_state;
+mod trigger;
 mod turn;
 
 pub use device::{Device, Held, OPENING, QUALITY_MOST};
@@ -33,8 +34,7 @@ pub use limits::{
 pub use map_book::MapBook;
 pub use opening::{ALL_FORMATS, CAPABILITIES, Opening};
 pub use play_book::{PlayBook, PlayState};
-pub use play_requests::PLAY_BIT;
 pub use record_book::RecordBook;
-pub use record_requests::RECORD_BIT;
 pub use run_state::RunState;
+pub use trigger::{PLAY_BIT, RECORD_BIT, has_other_bits};
 pub use turn::Turn;

@@ -7,12 +7,10 @@ ghost use Rattle.pcm_desk.specs.Here.{held_most};
 ghost use Rattle.pcm_desk.specs.PlaySafe.{CanTellDelay, IsPlayCounted, IsFilled};
 ghost use Rattle.pcm_desk.specs.PlayRequests.{delay_of, device_holds, still_to_pass, play_ask, play_posted, play_roused_in, play_set_trigger, play_stopped_in, play_tell_errors, play_triggered, play_with_opening, set_volume};
 
-use crate::{Here, Opening, PlayBook, PlayState, Turn};
+use crate::trigger::has_other_bits;
+use crate::{Here, Opening, PLAY_BIT, PlayBook, PlayState, Turn};
 use pcm_oss::{Answer, Errno, Request, is_volume};
 use pcm_rate::Rate;
-
-/// The bit of a trigger that a channel which plays has (`PCM_ENABLE_OUTPUT`).
-pub const PLAY_BIT: u32 = 2;
 
 impl PlayBook {
     /// The book after a request of a channel that plays, and the reply, by the rate of the mix, and where it and the device are. What is
@@ -170,7 +168,7 @@ impl PlayBook {
     fn set_trigger(self, mixed: u64, bits: u32) -> Turn<PlayBook>
         ensures { result ≡ play_set_trigger mixed bits self }
     {
-        if bits > 3 {
+        if has_other_bits(bits) {
             return Turn::refused(self, Errno::Inval);
         }
         if self.is_draining() {

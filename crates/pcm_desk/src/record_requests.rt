@@ -5,11 +5,8 @@ ghost use Rattle.pcm_desk.specs.RecordSafe.{IsRecordCounted};
 ghost use Rattle.pcm_desk.specs.RecordRequests.{record_ask, record_run, record_tell_errors};
 
 use crate::run_requests::{RunAsked, RunChange};
-use crate::{RecordBook, RunState, Turn};
+use crate::{RECORD_BIT, RecordBook, RunState, Turn};
 use pcm_oss::{Answer, Request};
-
-/// The bit of a trigger that a channel which records has (`PCM_ENABLE_INPUT`).
-pub const RECORD_BIT: u32 = 1;
 
 impl RecordBook {
     /// The book after a request of a channel that records, and the reply. What is asked of channels that play alone is refused.

@@ -4,6 +4,7 @@ ghost use Rattle.std.specs.Prelude.{◌≡◌, ◌<◌};
 ghost use Rattle.pcm_oss.specs.Fragments.{AreFragments};
 ghost use Rattle.pcm_desk.specs.RunRequests.{run_ask, run_doing, run_posted, run_set_trigger, run_staying, run_triggered};
 
+use crate::trigger::has_other_bits;
 use crate::{Opening, RunState, Turn};
 use pcm_oss::{Answer, Errno, Request};
 
@@ -48,7 +49,7 @@ impl RunState {
         requires bit { 0 < bit }
         ensures { result ≡ run_set_trigger bit bits self opening }
     {
-        if bits > 3 {
+        if has_other_bits(bits) {
             return RunAsked::staying(Turn::refused(opening, Errno::Inval));
         }
         let trigger = bits / bit % 2 == 1;

@@ -35,7 +35,8 @@ use Rattle.pcm_desk.specs.RecordSafe.{RecordIsSafe}
 use Rattle.pcm_desk.specs.MapBooks.{map_refilled_in, poke_turn}
 use Rattle.pcm_desk.specs.MapRequests.{map_ask}
 use Rattle.pcm_desk.specs.MapSafe.{MapIsSafe}
-use Rattle.pcm_desk.specs.Channels.{both_bits, capturing, map_mixing, map_passing, map_rate_at, mixed_by, mixing, play_passing, play_rate_at, play_starting, record_rate_at, record_starting, Channel, Mapped, Playing, Recording, channel_begun, member_refusal, own_close, own_ioctl, own_join, own_poke, own_read, own_request, own_turn, own_write}
+use Rattle.pcm_desk.specs.Channels.{capturing, map_mixing, map_passing, map_rate_at, mixed_by, mixing, play_passing, play_rate_at, play_starting, record_rate_at, record_starting, Channel, Mapped, Playing, Recording, channel_begun, member_refusal, own_close, own_ioctl, own_join, own_poke, own_read, own_request, own_turn, own_write}
+use Rattle.pcm_desk.specs.Triggers.{both_bits}
 use Rattle.pcm_desk.specs.Desk.{Desk, DeskTurn, after, desk_here, group_started, held_by, interrupt_turn, map_at, map_unopened, play_at, play_unopened, record_at, record_unopened, channel_at, channel_turn, grouping_at, is_member, with_channel_at}
 use Rattle.pcm_desk.proofs.Grouping.{by-starting}
 use Rattle.pcm_desk.proofs.MapLeaves as map_leaves

@@ -7,7 +7,7 @@ ghost use Rattle.pcm_desk.specs.Desk.{left_by};
 ghost use Rattle.pcm_engine.specs.Descriptors.{holding, shut, slot_of};
 ghost use Rattle.pcm_engine.specs.Desks.{with_held};
 
-use pcm_desk::{DESCRIPTORS, Held};
+use pcm_desk::{DESCRIPTORS, Held, has_other_bits};
 use pcm_group::Groups;
 use pcm_oss::{Errno, Request, Way};
 use std::alloc::{AllocError, Global};
@@ -116,7 +116,11 @@ pub fn member_refusal(member: bool, request: Request) -> Option<Errno>
 {
     match request {
         Request::SetTrigger(bits) if member => {
-            Some(if bits > 3 { Errno::Inval } else { Errno::Busy })
+            Some(if has_other_bits(bits) {
+                Errno::Inval
+            } else {
+                Errno::Busy
+            })
         }
         _ => None,
     }

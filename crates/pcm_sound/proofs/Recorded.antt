@@ -28,7 +28,8 @@ use Rattle.pcm_desk.specs.RunStates.{is_running}
 use Rattle.pcm_desk.specs.RecordBooks.{captures, record_begun, record_fill_of}
 use Rattle.pcm_desk.specs.RecordRequests.{record_ask}
 use Rattle.pcm_desk.specs.RecordSafe.{IsRecordInOrder, IsRecordUnstarted, RecordIsSafe}
-use Rattle.pcm_desk.specs.Channels.{both_bits, record_rate_at, own_request, own_join, own_turn, Grouping, Channel, channel_begun, member_refusal}
+use Rattle.pcm_desk.specs.Channels.{record_rate_at, own_request, own_join, own_turn, Grouping, Channel, channel_begun, member_refusal}
+use Rattle.pcm_desk.specs.Triggers.{both_bits}
 use Rattle.pcm_desk.specs.Desk.{Desk, after, interrupt_turn, record_at, record_unopened, grouping_at}
 use Rattle.pcm_desk.specs.Events.{Fits, frames_taken}
 use Rattle.pcm_desk.proofs.RecordAsking.{record-ask-rate, record-ask-settings}

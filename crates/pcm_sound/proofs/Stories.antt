@@ -29,7 +29,8 @@ use Rattle.pcm_desk.specs.declared.here.Here.{Here}
 use Rattle.pcm_desk.specs.Device.{DeviceSeen, IsDevice, here_at, mix_settings, map_slots, mixed_for, play_rate_between, play_slots}
 use Rattle.pcm_desk.specs.PlayBooks.{is_draining, is_play_free, is_started, play_begun, write_turn}
 use Rattle.pcm_desk.specs.PlaySafe.{PlayIsHere, PlayIsSafe}
-use Rattle.pcm_desk.specs.Channels.{asking, both_bits, closing, mixed_by, mixing, play_passing, play_rate_at, rests, settling, own_request, own_join, own_turn, Playing, Channel, channel_begun, member_refusal, join_result, play_starting}
+use Rattle.pcm_desk.specs.Channels.{asking, closing, mixed_by, mixing, play_passing, play_rate_at, rests, settling, own_request, own_join, own_turn, Playing, Channel, channel_begun, member_refusal, join_result, play_starting}
+use Rattle.pcm_desk.specs.Triggers.{both_bits}
 use Rattle.pcm_desk.specs.Desk.{Desk, after, desk_here, map_at, map_unopened, play_at, play_unopened, grouping_at, is_member}
 use Rattle.pcm_desk.specs.Events.{Fits, frames_taken}
 use Rattle.pcm_desk.proofs.PlayHere.{here-ask, here-begun, here-close, here-settled, here-write, last-refilled}

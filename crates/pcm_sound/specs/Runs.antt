@@ -14,7 +14,7 @@ use Rattle.pcm_desk.specs.declared.play_book.PlayState.{PlayState}
 use Rattle.pcm_desk.specs.declared.play_book.PlayState.TheVariants.{Running}
 use Rattle.pcm_desk.specs.Device.{DeviceSeen}
 use Rattle.pcm_desk.specs.PlayBooks.{giving, is_draining, is_started}
-use Rattle.pcm_desk.specs.PlayRequests.{has_play_bit}
+use Rattle.pcm_desk.specs.Triggers.{has_play_bit}
 use Rattle.pcm_desk.specs.Channels.{mixed_by, play_rate_at}
 use Rattle.pcm_desk.specs.Desk.{Desk}
 use Rattle.pcm_sound.specs.Given.{given_frame}

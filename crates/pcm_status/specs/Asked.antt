@@ -2,13 +2,11 @@
 use Rattle.std.specs.Prelude.{◌≡◌, ◌<◌, ℕ, true, false, Some}
 use Rattle.pcm_feeder.specs.declared.kind.Kind.{Kind}
 use Rattle.pcm_feeder.specs.Kept.{Kept}
-use Rattle.pcm_oss.specs.declared.event.Event.{Event}
 use Rattle.pcm_oss.specs.declared.event.Way.{Way}
 use Rattle.pcm_desk.specs.declared.device.Held.{Held}
 use Rattle.pcm_desk.specs.declared.limits.TheConstants.{DESCRIPTORS}
 use Rattle.pcm_desk.specs.Desk.{held_by}
-use Rattle.pcm_desk.specs.Events.{IsDescriptor}
-use Rattle.pcm_desk.specs.Own.{descriptor_of, slots_of}
+use Rattle.pcm_desk.specs.Own.{slots_of}
 use Rattle.pcm_engine.specs.declared.engine.EngineOf.{EngineOf}
 use Rattle.pcm_engine.specs.Engines.{AreReady, desk_of, device_of}
 use Rattle.pcm_status.specs.declared.limits.TheConstants.{FRAMES_MOST}
@@ -19,12 +17,7 @@ pub record CanAskOf {B : Type 0} (kind : B → Kind) (kept : B → Kept) (engine
   pub ready : AreReady kind kept engine
   pub within : fd < DESCRIPTORS
 
--- or of what an event would be answered
-pub record CanForesee {B : Type 0} (kind : B → Kind) (kept : B → Kept) (engine : EngineOf B) (event : Event) : Type 0 where
-  pub ready : AreReady kind kept engine
-  pub within : IsDescriptor (descriptor_of event)
-
--- of a slot of a way, by its place among these
+-- or of a slot of a way, by its place among these
 pub record HasSlot {B : Type 0} (kind : B → Kind) (kept : B → Kept) (engine : EngineOf B) (way : Way) (place : ℕ) : Type 0 where
   pub ready : AreReady kind kept engine
   pub there : place < slots_of (desk_of engine) way

@@ -1,10 +1,8 @@
 //! Which descriptors a client needn't wait for.
 
 ghost use Rattle.std.specs.Prelude.{◌≡◌};
-ghost use Rattle.pcm_oss.specs.declared.event.Event.TheVariants.{Write, Read};
-ghost use Rattle.pcm_wave.specs.declared.pool.Source.TheVariants.{Inline};
 ghost use Rattle.pcm_engine.specs.Engines.{desk_of, device_of};
-ghost use Rattle.pcm_status.specs.Asked.{CanForesee};
+ghost use Rattle.pcm_status.specs.Asked.{CanAskOf};
 ghost use Rattle.pcm_status.specs.Statuses.{is_readable, is_writable};
 
 use crate::waits::{has_whole, takes_whole};
@@ -14,7 +12,7 @@ use pcm_oss::Way;
 
 /// Whether a byte can be written to a descriptor now, as FreeBSD's `poll` asks it with a low-water mark of one byte.
 pub fn is_writable<B: Feeder>(engine: &EngineOf<B>, fd: u8) -> bool
-    requires { CanForesee B.kind B.kept engine.now (Write fd Inline 0 1) }
+    requires { CanAskOf B.kind B.kept engine.now fd }
     ensures { result ≡ is_writable (device_of engine.now) (desk_of engine.now) fd }
 {
     let Some(held) = engine.held(fd) else {
@@ -29,7 +27,7 @@ pub fn is_writable<B: Feeder>(engine: &EngineOf<B>, fd: u8) -> bool
 
 /// Whether a byte can be read from a descriptor now.
 pub fn is_readable<B: Feeder>(engine: &EngineOf<B>, fd: u8) -> bool
-    requires { CanForesee B.kind B.kept engine.now (Read fd 1) }
+    requires { CanAskOf B.kind B.kept engine.now fd }
     ensures { result ≡ is_readable (device_of engine.now) (desk_of engine.now) fd }
 {
     let Some(held) = engine.held(fd) else {

@@ -9,7 +9,7 @@ ghost use Rattle.pcm_desk.specs.PlayBooks.{is_play_free};
 ghost use Rattle.pcm_engine.specs.Desks.{channel_asked};
 ghost use Rattle.pcm_engine.specs.Engines.{desk_of, device_of};
 ghost use Rattle.pcm_engine.specs.Views.{HasPlayTaken};
-ghost use Rattle.pcm_status.specs.Asked.{CanForesee, HasSlot};
+ghost use Rattle.pcm_status.specs.Asked.{CanAskOf, HasSlot};
 ghost use Rattle.pcm_status.specs.Statuses.{would};
 
 use pcm_desk::Held;
@@ -20,7 +20,7 @@ use pcm_oss::{Answer, Errno, Request, Way};
 /// What a request of the channel of a descriptor would be answered now. Nothing is done: the next position still counts fragments from the
 /// one answered before, and no shortage is forgotten.
 pub fn reply_of<B: Feeder>(engine: &EngineOf<B>, fd: u8, request: Request) -> Result<Answer, Errno>
-    requires { CanForesee B.kind B.kept engine.now (Ioctl fd request) }
+    requires { CanAskOf B.kind B.kept engine.now fd }
     ensures { result ≡ would (device_of engine.now) (desk_of engine.now) (Ioctl fd request) }
 {
     let Some(held) = engine.held(fd) else {

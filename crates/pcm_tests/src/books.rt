@@ -1,5 +1,6 @@
 //! What interrupts do to a book, at the rate of the mix and at half of it.
 ghost use Rattle.std.specs.Prelude.{◌+◌, ◌<◌, ◌^◌};
+ghost use Rattle.pcm_rate.specs.Rates.{IsRatio};
 
 use pcm_desk::{Device, Here, PlayBook, PlayState};
 use pcm_rate::{Rate, UNCHANGED};
@@ -111,9 +112,10 @@ const HALF: Rate = Rate {
     lookahead: 1,
 };
 
-// The first row that has another outcome, at the rate of the mix or at half of it.
-fn first_wrong(at_half: bool, rows: &[Row]) -> Option<usize> {
-    let rate = if at_half { HALF } else { UNCHANGED };
+// The first row at a rate that has another outcome.
+fn first_wrong(rate: Rate, rows: &[Row]) -> Option<usize>
+    requires { IsRatio rate }
+{
     for (at, (stage, wanted, after, underruns, last)) in rows.iter().enumerate() {
         let got = book(*stage, 0, 0).refilled(rate, 100, u64::from(*wanted));
         let expected = PlayBook {
@@ -144,12 +146,12 @@ fn first_wrong_end(ends: &[End]) -> Option<usize> {
 
 #[test]
 fn interrupts(rt: HostRuntime) {
-    assert_eq!(rt; first_wrong(false, &AT_THE_RATE), None);
+    assert_eq!(rt; first_wrong(UNCHANGED, &AT_THE_RATE), None);
 }
 
 #[test]
 fn interrupts_at_half_the_rate(rt: HostRuntime) {
-    assert_eq!(rt; first_wrong(true, &AT_HALF_THE_RATE), None);
+    assert_eq!(rt; first_wrong(HALF, &AT_HALF_THE_RATE), None);
 }
 
 #[test]

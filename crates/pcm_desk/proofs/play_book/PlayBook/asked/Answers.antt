@@ -1,5 +1,5 @@
 use Rattle.std.proofs.Common.{Bool, ap, ◌∙◌}
-use Rattle.pcm_desk.specs.declared.play_requests.TheConstants.{PLAY_BIT}
+use Rattle.pcm_desk.specs.declared.trigger.TheConstants.{PLAY_BIT}
 use Rattle.pcm_desk.specs.Openings as openings
 use Rattle.pcm_desk.specs.PlayRequests.{play_with_opening}
 use Rattle.pcm_desk.proofs.PlayAsking.{asks-common}
