@@ -77,6 +77,18 @@ impl ByteRing {
         self.buffer.read_into(out)
     }
 
+    /// Holds the bytes that another ring holds, and is of its size, for which there is room.
+    pub fn copy_from(&mut self, other: &ByteRing)
+        requires { other.now.size ≤ self.old.max }
+        ensures { self.new ≡ record other.now { max = self.old.max } }
+    {
+        self.clear();
+        self.set_size(other.size);
+        let (front, back) = other.buffer.as_slices();
+        self.put(front);
+        self.put(back);
+    }
+
     /// Drops all bytes that wait.
     pub fn clear(&mut self)
         ensures { self.new ≡ record self.old { bytes = [] } }
