@@ -85,7 +85,7 @@ window-set : (n at : ℕ) (lasts : List LastFrames) (new : LastFrames) → windo
 window-set n at lasts new = ap (take (n + 1 - (at + 1))) (drop-set-lt (at + 1) lasts at new (omega arith))
 
 -- pairs up to one, with that one
-front-more : (at : ℕ) (lasts : List LastFrames) (new : LastFrames) → at < length lasts → pair_frames (take (at + 1) (set lasts at new)) ≡ pair_frames (take at lasts) ++ frames_kept new
+pub front-more : (at : ℕ) (lasts : List LastFrames) (new : LastFrames) → at < length lasts → pair_frames (take (at + 1) (set lasts at new)) ≡ pair_frames (take at lasts) ++ frames_kept new
 front-more at lasts new within =
     ap pair_frames (take_more_set lasts at new within)
     ∙ flat_map-append frames_kept (take at lasts) (new ∷ [])

@@ -3,3 +3,4 @@ pub mod Passing
 pub mod Turned
 pub mod Equalising
 pub mod Fed
+pub mod Resuming

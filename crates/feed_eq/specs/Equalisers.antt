@@ -14,7 +14,7 @@ pub record CanEqualise (channels sections : ℕ) : Type 0 where
   pub limits : AreChannels channels
   pub few : sections ≤ 4
 
--- an equaliser stays fitted to as many channels and sections
-pub record KeepsFit (old new : Equaliser) : Type 0 where
-  pub channels : new.channels ≡ old.channels
-  pub sections : new.sections ≡ old.sections
+-- an equaliser is fitted to as many channels and sections
+pub record IsFittedTo (width count : ℕ) (found : Equaliser) : Type 0 where
+  pub channels : found.channels ≡ width
+  pub sections : found.sections ≡ count

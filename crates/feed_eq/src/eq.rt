@@ -5,7 +5,7 @@ ghost use Rattle.pcm_feeder.specs.Kept.{unfitted};
 ghost use Rattle.feed_eq.specs.Feeders.{kept_by_eq};
 
 use crate::equaliser::Equaliser;
-use pcm_feeder::{Feeder, Kind, Moved, Pull, Spec, Tables};
+use pcm_feeder::{AT_REST, Feeder, Kind, Moved, Progress, Pull, Spec, Tables};
 use std::alloc::{AllocError, Global};
 
 /// Puts frames through the sections of the tables, one after another.
@@ -41,6 +41,20 @@ impl Feeder for EqFeeder {
     fn fit(&mut self, spec: Spec) {
         if let Spec::Eq { channels, sections } = spec {
             self.fitted = Some(Equaliser::silent(channels, sections));
+        }
+    }
+
+    fn keep(&self, samples: &mut [i32]) -> Progress {
+        if let Some(fitted) = &self.fitted {
+            fitted.keep(samples);
+        }
+        AT_REST
+    }
+
+    // There is no rate: so the progress is that at rest.
+    fn resume(&mut self, spec: Spec, progress: Progress, samples: &[i32]) {
+        if let Spec::Eq { channels, sections } = spec {
+            self.fitted = Some(Equaliser::of(channels, sections, samples));
         }
     }
 

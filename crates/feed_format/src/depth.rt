@@ -17,6 +17,7 @@ pub struct Depth {
 }
 
 impl FrameMap for Depth {
+    ghost use Rattle.std.proofs.Common.{refl};
     ghost use Rattle.pcm_feeder.specs.declared.kind.Kind.TheVariants as kinds;
     ghost use Rattle.pcm_feeder.specs.declared.stage.Spec.TheVariants as specs;
     ghost use Rattle.pcm_feeder.specs.Stages.{at_bits};
@@ -29,6 +30,8 @@ impl FrameMap for Depth {
     ghost mapped = { λ depth gain. at_bits depth.bits };
 
     ghost maps = { λ depth. maps-depth depth.bits depth.channels };
+
+    ghost unrated = { λ _. record { rate = refl; history = refl } };
 
     fn kind() -> Kind {
         Kind::Depth

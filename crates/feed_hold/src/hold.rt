@@ -48,6 +48,16 @@ impl Interpolator for Hold {
         }
     }
 
+    fn keep(&self, samples: &mut [i32]) {
+        self.last.keep(samples);
+    }
+
+    fn resume(&mut self, spec: Spec, samples: &[i32]) {
+        if let Spec::Hold { channels, .. } = spec {
+            self.last = LastFrames::of(1, channels, samples);
+        }
+    }
+
     fn channels(&self) -> usize {
         self.last.channels
     }

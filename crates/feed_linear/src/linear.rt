@@ -50,6 +50,16 @@ impl Interpolator for Line {
         }
     }
 
+    fn keep(&self, samples: &mut [i32]) {
+        self.last.keep(samples);
+    }
+
+    fn resume(&mut self, spec: Spec, samples: &[i32]) {
+        if let Spec::Linear { channels, .. } = spec {
+            self.last = LastFrames::of(2, channels, samples);
+        }
+    }
+
     fn channels(&self) -> usize {
         self.last.channels
     }

@@ -26,6 +26,7 @@ pub struct Matrix {
 }
 
 impl FrameMap for Matrix {
+    ghost use Rattle.std.proofs.Common.{refl};
     ghost use Rattle.pcm_feeder.specs.declared.kind.Kind.TheVariants as kinds;
     ghost use Rattle.pcm_feeder.specs.declared.stage.Spec.TheVariants as specs;
     ghost use Rattle.pcm_feeder.proofs.Unrated.{maps-matrix};
@@ -37,6 +38,8 @@ impl FrameMap for Matrix {
     ghost mapped = { λ matrix gain. in_layout matrix.from matrix.to };
 
     ghost maps = { λ matrix. maps-matrix matrix.from matrix.to };
+
+    ghost unrated = { λ _. record { rate = refl; history = refl } };
 
     fn kind() -> Kind {
         Kind::Matrix

@@ -69,6 +69,24 @@ impl Interpolator for Polyphase {
         }
     }
 
+    fn keep(&self, samples: &mut [i32]) {
+        self.window.keep(samples);
+    }
+
+    fn resume(&mut self, spec: Spec, samples: &[i32]) {
+        if let Spec::Poly {
+            channels,
+            table,
+            taps,
+            ..
+        } = spec
+        {
+            self.window.resume(channels, taps, samples);
+            self.passed = 0;
+            self.table = table;
+        }
+    }
+
     fn channels(&self) -> usize {
         self.window.channels()
     }

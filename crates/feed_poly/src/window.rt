@@ -4,8 +4,8 @@ ghost use Rattle.std.specs.Prelude.{◌≡◌, ◌<◌, ◌≤◌, ◌+◌, ◌*
 ghost use Rattle.pcm_sequence.specs.Fixed.{fixed_items, fixed_len};
 ghost use Rattle.pcm_feeder.specs.Limits.{AreChannels};
 ghost use Rattle.pcm_feeder.specs.declared.limits.TheConstants.{TAPS};
-ghost use Rattle.pcm_feeder.specs.Streams.{silence, moved_on};
-ghost use Rattle.feed_poly.specs.Places.{IsTwice, ArePut};
+ghost use Rattle.pcm_feeder.specs.Streams.{frames_of, interleaved, silence, moved_on};
+ghost use Rattle.feed_poly.specs.Places.{IsTwice, ArePut, window_frame};
 ghost use Rattle.feed_poly.specs.Rows.{channel_in};
 
 use pcm_sequence::Fixed;
@@ -63,6 +63,44 @@ impl Window {
         self.channels = channels;
         self.taps = taps;
         self.at = 0;
+    }
+
+    /// Begins again with `taps` frames, interleaved.
+    pub fn resume(&mut self, channels: usize, taps: usize, samples: &[i32])
+        requires limits { AreChannels channels }
+        requires some { 1 ≤ taps }
+        requires most { taps ≤ TAPS }
+        requires size { length samples.now ≡ taps * channels }
+        ensures frames { window_frames self.new ≡ frames_of channels samples.now }
+        ensures channels { self.new.channels ≡ channels }
+        ensures taps { self.new.taps ≡ taps }
+    {
+        self.clear(channels, taps);
+        self.eat(samples, 0, taps);
+    }
+
+    /// Copies the frames, interleaved.
+    pub fn keep(&self, samples: &mut [i32])
+        requires { length samples.old ≡ self.now.taps * self.now.channels }
+        ensures { samples.new ≡ interleaved (window_frames self.now) }
+    {
+        let channels = self.channels;
+        for k in 0..self.taps {
+            let at = k * channels;
+            self.copy_frame(k, &mut samples[at..at + channels]);
+        }
+    }
+
+    // Copies a frame, counted from the oldest.
+    fn copy_frame(&self, k: usize, frame: &mut [i32])
+        requires there { k < self.now.taps }
+        requires room { length frame.old ≡ self.now.channels }
+        ensures { frame.new ≡ window_frame self.now.channels (fixed_items self.now.samples) (self.now.at + k) }
+    {
+        let at = self.at + k;
+        for channel in 0..self.channels {
+            frame[channel] = self.samples[channel * PLACES + at];
+        }
     }
 
     /// Takes in the frames of the input from one place to another, in place of as many of the oldest.

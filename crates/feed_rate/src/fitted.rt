@@ -1,13 +1,14 @@
 //! The counts of a fitted converter, and its walk from output to output.
 
 ghost use Rattle.std.specs.Prelude.{◌≡◌, ◌≤◌, ◌+◌, pos};
+ghost use Rattle.pcm_feeder.specs.Fractions.{IsAhead, IsPhase};
 ghost use Rattle.pcm_feeder.specs.Limits.{AreChannels, IsRate};
 ghost use Rattle.pcm_feeder.specs.Pace.{rate_by, phase_by, ahead_by, factor_of};
 ghost use Rattle.feed_rate.specs.Methods.{channels_by};
 ghost use Rattle.feed_rate.specs.Walks.{CanWalk, HasWalked};
 
 use crate::{Interpolator, Point};
-use pcm_feeder::{Moved, Pace, Step, Tables};
+use pcm_feeder::{Moved, Pace, Progress, Step, Tables};
 use pcm_num::Reciprocal;
 use pcm_rate::Rate;
 
@@ -37,6 +38,22 @@ impl Fitted {
             used: 1 + rate.lookahead as usize,
             whole: Reciprocal::of(rate.dst),
         }
+    }
+
+    /// Where a converter is that is this far.
+    pub fn resumed(rate: Rate, progress: Progress) -> Fitted
+        requires source { IsRate rate.src }
+        requires target { IsRate rate.dst }
+        requires lookahead { rate.lookahead ≤ 32 }
+        requires phase { IsPhase rate progress.phase }
+        requires ahead { IsAhead rate progress.ahead }
+        ensures rate { rate_by result.pace ≡ rate }
+        ensures phase { phase_by result.pace ≡ progress.phase }
+        ensures ahead { ahead_by result.pace ≡ progress.ahead }
+    {
+        let mut fitted = Fitted::new(rate);
+        fitted.pace = Pace::resumed(rate.src, rate.dst, rate.lookahead, progress);
+        fitted
     }
 
     /// Puts the next frames at the front of the output, as many as are given, and takes in the frames

@@ -13,9 +13,9 @@ pub trait Interpolator: Drop {
     ghost use Rattle.pcm_feeder.specs.Kept.{fresh};
     ghost use Rattle.pcm_feeder.specs.Kinds.{kind_of};
     ghost use Rattle.pcm_feeder.specs.Limits.{AreChannels, IsSpec};
-    ghost use Rattle.pcm_feeder.specs.Stages.{rate_of};
-    ghost use Rattle.pcm_feeder.specs.Streams.{HaveChannels};
-    ghost use Rattle.feed_rate.specs.Methods.{spec_of, channels_by, HasFilter};
+    ghost use Rattle.pcm_feeder.specs.Stages.{channels_in, history, rate_of};
+    ghost use Rattle.pcm_feeder.specs.Streams.{HaveChannels, frames_of, interleaved};
+    ghost use Rattle.feed_rate.specs.Methods.{spec_of, channels_by, history_by, HasFilter};
     ghost use Rattle.feed_rate.specs.Outputs.{Seen, GivesOutput, TakesIn};
 
     // The stage that it makes of a converter, and whether it takes memory.
@@ -41,6 +41,22 @@ pub trait Interpolator: Drop {
         requires limits { IsSpec spec }
         ensures method { spec ≡ spec_of (seen self.new).method (rate_of spec) }
         ensures tail { (seen self.new).tail ≡ (fresh spec).tail }
+        ensures passed { (seen self.new).passed ≡ 0 };
+
+    /// Copies the frames that it keeps, interleaved.
+    fn keep(&self, samples: &mut [i32])
+        requires rested { (seen self.now).passed ≡ 0 }
+        requires room { length samples.old
+            ≡ history_by (seen self.now).method * channels_by (seen self.now).method }
+        ensures { samples.new ≡ interleaved (seen self.now).tail };
+
+    /// Begins with these frames, interleaved, in place of silence.
+    fn resume(&mut self, spec: Spec, samples: &[i32])
+        requires kind { kind_of spec ≡ kind }
+        requires limits { IsSpec spec }
+        requires size { length samples.now ≡ history spec * channels_in spec }
+        ensures method { spec ≡ spec_of (seen self.new).method (rate_of spec) }
+        ensures tail { (seen self.new).tail ≡ frames_of (channels_in spec) samples.now }
         ensures passed { (seen self.new).passed ≡ 0 };
 
     /// How many channels a frame has.

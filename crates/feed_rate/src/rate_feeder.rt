@@ -10,7 +10,7 @@ ghost use Rattle.feed_rate.specs.declared.fitted.Fitted.{Fitted};
 
 use crate::Interpolator;
 use crate::fitted::Fitted;
-use pcm_feeder::{Feeder, Kind, Moved, Pull, Spec, Tables};
+use pcm_feeder::{AT_REST, Feeder, Kind, Moved, Progress, Pull, Spec, Tables};
 use pcm_rate::{Rate, UNCHANGED};
 use std::alloc::{AllocError, Global};
 
@@ -56,6 +56,19 @@ impl<I: Interpolator> Feeder for RateFeeder<I> {
     fn fit(&mut self, spec: Spec) {
         self.interpolator.fit(spec);
         self.fitted = Some(Fitted::new(rate_of(spec)));
+    }
+
+    fn keep(&self, samples: &mut [i32]) -> Progress {
+        let Some(fitted) = &self.fitted else {
+            return AT_REST;
+        };
+        self.interpolator.keep(samples);
+        fitted.pace.progress()
+    }
+
+    fn resume(&mut self, spec: Spec, progress: Progress, samples: &[i32]) {
+        self.interpolator.resume(spec, samples);
+        self.fitted = Some(Fitted::resumed(rate_of(spec), progress));
     }
 
     fn feed(&mut self, tables: &Tables, pull: Pull, input: &[i32], output: &mut [i32]) -> Moved {

@@ -1,6 +1,6 @@
 //! The stage of any type.
 
-use pcm_feeder::{Feeder, Kind, Moved, Pull, Spec, Tables};
+use pcm_feeder::{Feeder, Kind, Moved, Progress, Pull, Spec, Tables};
 
 /// A stage of one of seven types, each for a kind of its own.
 #[derive(Drop)]
@@ -45,6 +45,30 @@ impl<M: Feeder, H: Feeder, L: Feeder, P: Feeder, V: Feeder, D: Feeder, E: Feeder
             AnyOf::Volume(stage) => stage.fit(spec),
             AnyOf::Depth(stage) => stage.fit(spec),
             AnyOf::Eq(stage) => stage.fit(spec),
+        }
+    }
+
+    fn keep(&self, samples: &mut [i32]) -> Progress {
+        match self {
+            AnyOf::Matrix(stage) => stage.keep(samples),
+            AnyOf::Hold(stage) => stage.keep(samples),
+            AnyOf::Linear(stage) => stage.keep(samples),
+            AnyOf::Poly(stage) => stage.keep(samples),
+            AnyOf::Volume(stage) => stage.keep(samples),
+            AnyOf::Depth(stage) => stage.keep(samples),
+            AnyOf::Eq(stage) => stage.keep(samples),
+        }
+    }
+
+    fn resume(&mut self, spec: Spec, progress: Progress, samples: &[i32]) {
+        match self {
+            AnyOf::Matrix(stage) => stage.resume(spec, progress, samples),
+            AnyOf::Hold(stage) => stage.resume(spec, progress, samples),
+            AnyOf::Linear(stage) => stage.resume(spec, progress, samples),
+            AnyOf::Poly(stage) => stage.resume(spec, progress, samples),
+            AnyOf::Volume(stage) => stage.resume(spec, progress, samples),
+            AnyOf::Depth(stage) => stage.resume(spec, progress, samples),
+            AnyOf::Eq(stage) => stage.resume(spec, progress, samples),
         }
     }
 

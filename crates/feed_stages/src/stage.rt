@@ -11,7 +11,7 @@ use feed_linear::LinearFeeder;
 use feed_matrix::MatrixFeeder;
 use feed_poly::PolyFeeder;
 use feed_volume::VolumeFeeder;
-use pcm_feeder::{Feeder, Kind, Moved, Pull, SevenOf, Spec, Tables};
+use pcm_feeder::{Feeder, Kind, Moved, Progress, Pull, SevenOf, Spec, Tables};
 use std::alloc::{AllocError, Global};
 
 // The seven of this product.
@@ -44,6 +44,14 @@ impl Feeder for Stage {
 
     fn fit(&mut self, spec: Spec) {
         self.of.fit(spec)
+    }
+
+    fn keep(&self, samples: &mut [i32]) -> Progress {
+        self.of.keep(samples)
+    }
+
+    fn resume(&mut self, spec: Spec, progress: Progress, samples: &[i32]) {
+        self.of.resume(spec, progress, samples)
     }
 
     fn feed(&mut self, tables: &Tables, pull: Pull, input: &[i32], output: &mut [i32]) -> Moved {

@@ -18,6 +18,7 @@ pub struct Volume {
 }
 
 impl FrameMap for Volume {
+    ghost use Rattle.std.proofs.Common.{refl};
     ghost use Rattle.pcm_feeder.specs.declared.kind.Kind.TheVariants as kinds;
     ghost use Rattle.pcm_feeder.specs.declared.stage.Spec.TheVariants as specs;
     ghost use Rattle.pcm_feeder.specs.Layouts.{at_gain};
@@ -30,6 +31,8 @@ impl FrameMap for Volume {
     ghost mapped = { λ volume. at_gain volume.layout };
 
     ghost maps = { λ volume. maps-volume volume.layout };
+
+    ghost unrated = { λ _. record { rate = refl; history = refl } };
 
     fn kind() -> Kind {
         Kind::Volume

@@ -1,6 +1,6 @@
 -- What a fitted feeder keeps is bounded, whatever it is fed.
 use Rattle.std.proofs.Common.{◌≡◌, ◌<◌, ◌≤◌, ◌+◌, ◌*◌, ◌/◌, ℕ, zero, suc, ℤ, pos, negsuc, neg_ℤ, ◌+ℤ◌, ◌-ℤ◌, ◌≤ℤ◌, ◌<ℤ◌, ◌⊎◌, List, [], length, take, inl, inr, refl, sym, ap, ◌∙◌, arith}
-use Rattle.std.proofs.Math.Nat.{mod-lt, mul-le-mul_right, lt-div-mul-add, div-lt_iff_lt-mul}
+use Rattle.std.proofs.Math.Nat.{mul-le-mul_right, lt-div-mul-add, div-lt_iff_lt-mul}
 use Rattle.std.proofs.lemmas.Bool.{cases_lt}
 use Rattle.std.proofs.lemmas.Int.{ints, clamps, by_lt_z}
 use Rattle.std.specs.Int.{int_max}
@@ -19,6 +19,7 @@ use Rattle.pcm_feeder.specs.Kept.{Kept, fresh, past, StandsFor, IsFitted}
 use Rattle.pcm_feeder.specs.Turns.{step_of, reach, eaten_by, given_by, kept_after, turn}
 use Rattle.pcm_rate.proofs.Counts.{div_grows}
 use Rattle.pcm_feeder.proofs.Phases.{reach_allowed}
+use Rattle.pcm_feeder.proofs.Resumed.{phase-after, phase-behind}
 use Rattle.pcm_feeder.proofs.Outputs.{src-above, dst-above}
 use Rattle.pcm_feeder.proofs.Past.{past-begin, past-count, past-channels, past_after-count, past_after-channels}
 use Rattle.pcm_feeder.proofs.Turns.{natural-is, eaten-within, reach-above, ahead-most, ahead-unrated, turn-fitted}
@@ -169,10 +170,10 @@ fitted-after spec tables kept input want is h have =
     let P : Frame → Type 0 = λ frame. length frame ≡ channels_in spec in
     record {
       fitted = refl;
-      phase = mod-lt (kept.phase + given * rate.src) (dst-above spec is);
-      least = ahead-least-after rate kept o want (src-above spec is) (dst-above spec is) h.phase h.least;
-      most = ahead-most-after rate kept o want (src-above spec is) (dst-above spec is) h.phase h.most;
-      unrated = λ level. ahead-unrated-after rate kept o want level h.phase (h.unrated level);
+      phase = phase-after rate kept.phase given (dst-above spec is) h.phase;
+      least = ahead-least-after rate kept o want (src-above spec is) (dst-above spec is) h.phase.below h.least;
+      most = ahead-most-after rate kept o want (src-above spec is) (dst-above spec is) h.phase.below h.most;
+      unrated = λ level. ahead-unrated-after rate kept o want level h.phase.below (h.unrated level);
       count = past_after-count spec tables kept.tail (take eaten input) h.count;
       frames = past_after-channels spec tables kept.tail (take eaten input) h.frames (All-take P eaten input have);
     }
@@ -197,7 +198,7 @@ StandsFor-fitted spec tables kept x given is h =
     let P : Frame → Type 0 = λ frame. length frame ≡ channels_in spec in
     record {
       fitted = h.fitted;
-      phase = rw h.phase (mod-lt (given * (rate_of spec).src) (dst-above spec is));
+      phase = rw h.phase (phase-behind (rate_of spec) given (dst-above spec is));
       least = ahead-least spec tables kept x given is h;
       most = ahead-most spec tables kept x given is h;
       unrated = ahead-unrated spec tables kept x given h;

@@ -12,6 +12,7 @@ pub mod Sections
 pub mod Past
 pub mod Outputs
 pub mod Turns
+pub mod Resumed
 pub mod Fitted
 pub mod Paces
 pub mod Writing

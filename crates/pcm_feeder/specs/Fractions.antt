@@ -1,7 +1,8 @@
 -- A change of rate in lowest terms, and the bounds of what a converter counts.
-use Rattle.std.specs.Prelude.{◌≡◌, ◌≤◌, ◌<◌, ◌+◌, ◌*◌, ◌/◌, ℕ, ℤ, pos, neg_ℤ, ◌≤ℤ◌}
+use Rattle.std.specs.Prelude.{◌≡◌, ◌≤◌, ◌<◌, ◌+◌, ◌*◌, ◌/◌, ◌%◌, ℕ, ℤ, pos, neg_ℤ, ◌≤ℤ◌}
 use Rattle.std.specs.Int.{IsGcd}
 use Rattle.pcm_format.specs.declared.settings.TheConstants.{RATE_MOST}
+use Rattle.pcm_num.specs.Fraction.{HasCommonFactor}
 use Rattle.pcm_rate.specs.declared.rate.Rate.{Rate}
 use Rattle.pcm_feeder.specs.Limits.{IsRate}
 
@@ -26,3 +27,8 @@ pub record IsFraction (rate : Rate) (factor low whole part : ℕ) : Type 0 where
 pub record IsAhead (rate : Rate) (ahead : ℤ) : Type 0 where
   pub least : neg_ℤ (pos (rate.src / rate.dst)) ≤ℤ ahead
   pub most : ahead ≤ℤ pos (1 + rate.lookahead)
+
+-- a phase that outputs of a rate have: less than a frame, and a multiple of whatever divides both sides of the rate
+pub record IsPhase (rate : Rate) (phase : ℕ) : Type 0 where
+  pub below : phase < rate.dst
+  pub parts : (s d : ℕ) (common : HasCommonFactor rate.src rate.dst s d) → phase % common.factor ≡ 0

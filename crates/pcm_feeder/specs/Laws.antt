@@ -5,12 +5,13 @@ use Rattle.pcm_format.specs.Frames.{Frame, frames}
 use Rattle.pcm_format.specs.Layouts.{channels_of}
 use Rattle.pcm_format.specs.Samples.{samples}
 use Rattle.pcm_rate.specs.declared.rate.Rate.{Rate}
-use Rattle.pcm_rate.specs.Rates.{need}
+use Rattle.pcm_rate.specs.Rates.{need, unchanged}
 use Rattle.pcm_feeder.specs.declared.stage.Gain.{Gain}
+use Rattle.pcm_feeder.specs.declared.stage.Progress.{Progress}
 use Rattle.pcm_feeder.specs.declared.stage.Spec.{Spec}
 use Rattle.pcm_feeder.specs.Filters.{Filters}
-use Rattle.pcm_feeder.specs.Kept.{Kept, fresh, StandsFor, IsFitted}
-use Rattle.pcm_feeder.specs.Stages.{rate_of, channels_in, channels_out, conv, outputs, all_outputs}
+use Rattle.pcm_feeder.specs.Kept.{Kept, fresh, resumed, CanResume, IsFitted, IsKeptAs, StandsFor}
+use Rattle.pcm_feeder.specs.Stages.{rate_of, channels_in, channels_out, conv, history, outputs, all_outputs}
 use Rattle.pcm_feeder.specs.Streams.{Stream, silence, stream_of, HaveChannels, frames_of, interleaved}
 use Rattle.pcm_feeder.specs.Turns.{reach, allowed, turn, Continues, MapsFrames}
 
@@ -68,6 +69,11 @@ MapsStreams spec f = (tables : Filters) (gain : Gain) (list : List Frame) (place
     → all_outputs spec tables gain (stream_of (channels_in spec) list) place
     ≡ stream_of (channels_out spec) (map (f gain) list) place
 
+-- a stage without a change of rate keeps no frame
+pub record KeepsNothing (spec : Spec) : Type 0 where
+  pub rate : rate_of spec ≡ unchanged
+  pub history : history spec ≡ 0
+
 -- a feed turns each frame, by what its gain makes of one, and keeps nothing
 abbrev pub FeedsMapFrames : Spec → (Gain → Frame → Frame) → Type 0
 FeedsMapFrames spec f = (tables : Filters) (gain : Gain) (input : List Frame) (want : ℕ)
@@ -97,3 +103,8 @@ abbrev pub FeedsStayFitted : Spec → Type 0
 FeedsStayFitted spec = (kept : Kept) (tables : Filters) (gain : Gain) (input : List Frame) (want : ℕ)
     → IsFitted spec kept → HaveChannels (channels_in spec) input
     → IsFitted spec (turn kept tables gain input want).kept
+
+-- what was kept of a feeder is what another one goes on from
+abbrev pub ResumesWhatWasKept : Spec → Type 0
+ResumesWhatWasKept spec = (kept : Kept) (progress : Progress) (samples : List ℤ) → IsFitted spec kept → IsKeptAs kept progress samples
+    → CanResume spec progress samples × (resumed spec progress samples ≡ kept)

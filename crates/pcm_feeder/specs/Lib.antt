@@ -9,10 +9,10 @@ pub mod Fades
 pub mod Sections
 pub mod LastFrames
 pub mod Stages
+pub mod Fractions
 pub mod Kept
 pub mod Turns
 pub mod Laws
 pub mod Maps
-pub mod Fractions
 pub mod Pace
 pub mod Racks

@@ -1,12 +1,12 @@
 //! The interface of every stage.
 
-use crate::{Kind, Moved, Pull, Spec, Tables};
+use crate::{Kind, Moved, Progress, Pull, Spec, Tables};
 
 /// A stage of a chain. What it gives follows from what it keeps and from the arguments alone.
 pub trait Feeder: Drop {
     ghost use Rattle.std.specs.Prelude.{◌≡◌, ◌≤◌, ℕ};
     ghost use Rattle.pcm_feeder.specs.declared.kind.Kind.{Kind};
-    ghost use Rattle.pcm_feeder.specs.Kept.{Kept, fresh};
+    ghost use Rattle.pcm_feeder.specs.Kept.{Kept, fresh, resumed, CanBeKept, CanResume, IsKeptAs};
     ghost use Rattle.pcm_feeder.specs.Limits.{IsSpec};
     ghost use Rattle.pcm_feeder.specs.Kinds.{kind_of};
     ghost use Rattle.pcm_feeder.specs.Streams.{written};
@@ -28,6 +28,19 @@ pub trait Feeder: Drop {
         requires kind { kind_of spec ≡ kind self.old }
         requires limits { IsSpec spec }
         ensures kept { kept self.new ≡ fresh spec }
+        ensures kind { kind self.new ≡ kind self.old }
+        ensures mark { mark self.new ≡ mark self.old };
+
+    /// Copies the frames that it keeps of the past, interleaved, and tells how far it is: what `resume` goes on from.
+    fn keep(&self, samples: &mut [i32]) -> Progress
+        requires { CanBeKept (kept self.now) samples.old }
+        ensures { IsKeptAs (kept self.now) result samples.new };
+
+    /// Goes on where a stage is that was fitted to this and has kept so much. Takes no memory.
+    fn resume(&mut self, spec: Spec, progress: Progress, samples: &[i32])
+        requires kind { kind_of spec ≡ kind self.old }
+        requires can { CanResume spec progress samples.now }
+        ensures kept { kept self.new ≡ resumed spec progress samples.now }
         ensures kind { kind self.new ≡ kind self.old }
         ensures mark { mark self.new ≡ mark self.old };
 
@@ -62,6 +75,14 @@ impl Feeder for Box<dyn Feeder> {
 
     fn fit(&mut self, spec: Spec) {
         (**self).fit(spec)
+    }
+
+    fn keep(&self, samples: &mut [i32]) -> Progress {
+        (**self).keep(samples)
+    }
+
+    fn resume(&mut self, spec: Spec, progress: Progress, samples: &[i32]) {
+        (**self).resume(spec, progress, samples)
     }
 
     fn feed(&mut self, tables: &Tables, pull: Pull, input: &[i32], output: &mut [i32]) -> Moved {

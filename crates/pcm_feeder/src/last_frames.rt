@@ -2,7 +2,7 @@
 
 ghost use Rattle.std.specs.Prelude.{◌≡◌, ◌≤◌, ◌*◌, length, replicate};
 ghost use Rattle.pcm_feeder.specs.Limits.{AreChannels};
-ghost use Rattle.pcm_feeder.specs.Streams.{frames_of, silence};
+ghost use Rattle.pcm_feeder.specs.Streams.{frames_of, interleaved, silence};
 
 use crate::move_on;
 
@@ -36,6 +36,34 @@ impl LastFrames {
             len: frames * channels,
             samples: [0; 16],
         }
+    }
+
+    /// These frames, interleaved.
+    pub fn of(frames: usize, channels: usize, samples: &[i32]) -> LastFrames
+        requires few { frames ≤ 2 }
+        requires limits { AreChannels channels }
+        requires size { length samples.now ≡ frames * channels }
+        ensures frames { result.frames ≡ frames }
+        ensures channels { result.channels ≡ channels }
+        ensures same { frames_kept result ≡ frames_of channels samples.now }
+    {
+        let len = frames * channels;
+        let mut all = [0; 16];
+        all[..len].copy_from_slice(samples);
+        LastFrames {
+            frames,
+            channels,
+            len,
+            samples: all,
+        }
+    }
+
+    /// Copies their samples.
+    pub fn keep(&self, samples: &mut [i32])
+        requires { length samples.old ≡ self.now.frames * self.now.channels }
+        ensures { samples.new ≡ interleaved (frames_kept self.now) }
+    {
+        samples.copy_from_slice(self.samples());
     }
 
     /// Lends their samples.

@@ -10,7 +10,7 @@ ghost use Rattle.pcm_feeder.specs.Filters.{Filters};
 ghost use Rattle.pcm_feeder.specs.declared.kind.Kind.TheVariants as kinds;
 ghost use Rattle.pcm_feeder.specs.Kinds.{kind_of};
 ghost use Rattle.pcm_feeder.specs.Kept.{fresh, StandsFor};
-ghost use Rattle.pcm_feeder.specs.Laws.{AreJoinedAgain, AreCutAgain, AreLoaded, AllowsWhatReaches, UsesWhatIsNeeded, UsesNoGain, GivesItsChannels, KeepsSilence, MapsStreams, FeedsMapFrames, FeedsContinue, StandsWithAnyTables, StandsWithinBounds, FeedsStayFitted};
+ghost use Rattle.pcm_feeder.specs.Laws.{AreJoinedAgain, AreCutAgain, AreLoaded, AllowsWhatReaches, UsesWhatIsNeeded, UsesNoGain, GivesItsChannels, KeepsSilence, MapsStreams, FeedsMapFrames, FeedsContinue, ResumesWhatWasKept, StandsWithAnyTables, StandsWithinBounds, FeedsStayFitted};
 ghost use Rattle.pcm_feeder.specs.Layouts.{in_layout, at_gain};
 ghost use Rattle.pcm_feeder.specs.Limits.{IsSpec};
 ghost use Rattle.pcm_rate.specs.declared.rate.Rate.{Rate};
@@ -60,6 +60,11 @@ pub fn a_feed_continues_its_stream()
     ensures any_tables { (spec : Spec) → StandsWithAnyTables spec }
     ensures bounded { (spec : Spec) → IsSpec spec → StandsWithinBounds spec }
     ensures stays { (spec : Spec) → IsSpec spec → FeedsStayFitted spec }
+{}
+
+/// What a stage has kept is what another one goes on from.
+pub fn a_stage_resumes_what_it_kept()
+    ensures { (spec : Spec) → IsSpec spec → ResumesWhatWasKept spec }
 {}
 
 /// A feed of a stage without a change of rate turns each frame by itself.

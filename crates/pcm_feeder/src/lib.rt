@@ -25,8 +25,9 @@ pub use history::{frame_among, move_on};
 pub use kind::Kind;
 pub use last_frames::LastFrames;
 pub use laws::{
-    a_feed_continues_its_stream, allowed_outputs_reach_no_further, frames_are_samples,
-    outputs_use_what_is_needed, silence_stays_silence, stages_without_a_rate_map_frames,
+    a_feed_continues_its_stream, a_stage_resumes_what_it_kept, allowed_outputs_reach_no_further,
+    frames_are_samples, outputs_use_what_is_needed, silence_stays_silence,
+    stages_without_a_rate_map_frames,
 };
 pub use limits::{
     COEF_MOST, FILTERS, PHASES, SECTION_COEF_MOST, SECTION_SHIFT_MOST, SECTIONS, SHIFT_MOST,
@@ -38,6 +39,6 @@ pub use rack::{
     RACKS, Rack, RackFault, RackOf, Racks, RacksOf, Seven, SevenOf, WrongCount, WrongKind,
 };
 pub use section::Section;
-pub use stage::{Gain, Moved, Pull, Spec, UNITY};
+pub use stage::{AT_REST, Gain, Moved, Progress, Pull, Spec, UNITY};
 pub use sums::{product, scaled_down};
 pub use table::{Coefs, Table, Tables};

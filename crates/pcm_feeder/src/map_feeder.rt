@@ -3,7 +3,7 @@
 ghost use Rattle.std.specs.Prelude.{◌≡◌, IfOk, IsOk};
 ghost use Rattle.pcm_feeder.specs.Kept.{unfitted};
 
-use crate::{Feeder, Gain, Kind, Moved, Pull, Spec, Tables};
+use crate::{AT_REST, Feeder, Gain, Kind, Moved, Progress, Pull, Spec, Tables};
 use std::alloc::{AllocError, Global};
 
 /// What a stage does to each frame, whatever came before it.
@@ -14,7 +14,7 @@ pub trait FrameMap: Drop {
     ghost use Rattle.pcm_feeder.specs.declared.stage.Gain.{Gain};
     ghost use Rattle.pcm_feeder.specs.declared.stage.Spec.{Spec};
     ghost use Rattle.pcm_feeder.specs.Kinds.{kind_of};
-    ghost use Rattle.pcm_feeder.specs.Laws.{FeedsMapFrames};
+    ghost use Rattle.pcm_feeder.specs.Laws.{FeedsMapFrames, KeepsNothing};
     ghost use Rattle.pcm_feeder.specs.Limits.{IsGain, IsSpec};
     ghost use Rattle.pcm_feeder.specs.Stages.{channels_in, channels_out};
     ghost use Rattle.pcm_feeder.specs.Turns.{PutsTurned};
@@ -51,6 +51,9 @@ pub trait FrameMap: Drop {
 
     // And a feed of that stage turns frames so.
     ghost maps: { (made : Self) → FeedsMapFrames (stage made) (mapped made) };
+
+    // It has no rate, and so nothing of the past.
+    ghost unrated: { (made : Self) → KeepsNothing (stage made) };
 }
 
 /// Gives a frame for each frame that it eats. It keeps no sound.
@@ -87,6 +90,14 @@ impl<M: FrameMap> Feeder for MapFeeder<M> {
 
     fn fit(&mut self, spec: Spec) {
         self.fitted = M::of(spec);
+    }
+
+    fn keep(&self, samples: &mut [i32]) -> Progress {
+        AT_REST
+    }
+
+    fn resume(&mut self, spec: Spec, progress: Progress, samples: &[i32]) {
+        self.fit(spec);
     }
 
     fn feed(&mut self, tables: &Tables, pull: Pull, input: &[i32], output: &mut [i32]) -> Moved {

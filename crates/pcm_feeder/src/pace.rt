@@ -2,8 +2,9 @@
 
 ghost use Rattle.std.specs.Prelude.{◌≡◌, ◌<◌, ◌≤◌, ◌+◌, ◌*◌, ◌^◌, ℕ, pos, neg_ℤ, ◌+ℤ◌, ◌-ℤ◌, ◌≤ℤ◌};
 ghost use Rattle.pcm_format.specs.Samples.{natural};
-ghost use Rattle.pcm_feeder.specs.Fractions.{IsPaced, IsFraction, IsAhead};
+ghost use Rattle.pcm_feeder.specs.Fractions.{IsPaced, IsFraction, IsAhead, IsPhase};
 
+use crate::Progress;
 use pcm_num::{quotient, reduce};
 use pcm_rate::Rate;
 
@@ -60,6 +61,34 @@ impl Pace {
             part: low_src % low_dst,
             phase: 0,
             ahead: 0,
+        }
+    }
+
+    /// The pace of a converter that is this far.
+    pub fn resumed(src: u32, dst: u32, lookahead: u32, progress: Progress) -> Pace
+        requires source { IsRate src }
+        requires target { IsRate dst }
+        requires lookahead { lookahead ≤ 32 }
+        requires phase { IsPhase (record { src = src; dst = dst; lookahead = lookahead }) progress.phase }
+        requires ahead { IsAhead (record { src = src; dst = dst; lookahead = lookahead }) progress.ahead }
+        ensures rate { rate_by result ≡ record { src = src; dst = dst; lookahead = lookahead } }
+        ensures phase { phase_by result ≡ progress.phase }
+        ensures ahead { ahead_by result ≡ progress.ahead }
+    {
+        let mut pace = Pace::new(src, dst, lookahead);
+        pace.phase = progress.phase / pace.factor;
+        pace.ahead = progress.ahead;
+        pace
+    }
+
+    /// How far the converter is.
+    pub fn progress(&self) -> Progress
+        ensures phase { result.phase ≡ phase_by self.now }
+        ensures ahead { result.ahead ≡ ahead_by self.now }
+    {
+        Progress {
+            phase: self.phase * self.factor,
+            ahead: self.ahead,
         }
     }
 

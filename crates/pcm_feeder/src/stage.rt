@@ -80,6 +80,17 @@ pub struct Pull {
     pub want: usize,
 }
 
+/// How far a stage is: its next output lies `phase` parts of its target rate past the input frame under it, and from that frame on it
+/// has eaten `ahead` frames, which is below 0 where that frame is still to come.
+#[derive(Clone, Copy, Debug, PartialEq, Eq)]
+pub struct Progress {
+    pub phase: u32,
+    pub ahead: i64,
+}
+
+/// The progress of a stage at the begin of its stream, and of one without a change of rate at any time.
+pub const AT_REST: Progress = Progress { phase: 0, ahead: 0 };
+
 /// How many frames a feed took from its input, and how many it gave.
 #[derive(Clone, Copy, Debug, PartialEq, Eq)]
 pub struct Moved {
