@@ -1,10 +1,10 @@
--- Boxes fitted one after another: a later fit leaves the earlier ones alone, and fresh boxes stand for no frames.
+-- Boxes fitted or resumed one after another: a later one leaves the earlier ones alone.
 use Rattle.std.proofs.Common.{◌≡◌, ◌≢◌, ◌<◌, ◌+◌, ℕ, zero, suc, List, [], ◌∷◌, length, take, get_or, All, sym, ap, ◌∙◌, arith}
 use Rattle.std.proofs.lemmas.List.{get_or-take, length-take}
 use Rattle.std.proofs.lemmas.List.Elements.{All-more}
 use Rattle.pcm_feeder.specs.declared.rack.SevenOf.{SevenOf}
 use Rattle.pcm_feeder.specs.declared.stage.Spec.{Spec}
-use Rattle.pcm_feeder.specs.Kept.{Kept, fresh}
+use Rattle.pcm_feeder.specs.Kept.{Kept}
 use Rattle.pcm_feeder.specs.Kinds.{kind_of}
 use Rattle.pcm_plan.specs.Fits.{AreDistinct}
 use Rattle.pcm_chain.specs.Boxes.{kept_in}
@@ -16,13 +16,13 @@ distinct-at (spec ∷ specs) zero j d e are below within = absurd (omega arith)
 distinct-at (spec ∷ specs) (suc i) zero d e are below within = are.0 i e (omega arith)
 distinct-at (spec ∷ specs) (suc i) (suc j) d e are below within = distinct-at specs i j d e are.1 (omega arith) (omega arith)
 
--- one box more is fitted
-pub fresh-more : {B : Type 0} (kept : B → Kept) (old new : SevenOf B) (specs : List Spec) (i : ℕ) (d : Spec) → AreDistinct specs → i < length specs
-    → All (λ spec. kept_in kept old spec ≡ fresh spec) (take i specs) → kept_in kept new (get_or specs i d) ≡ fresh (get_or specs i d)
+-- one box more keeps what its stage is to keep
+pub kept-more : {B : Type 0} (kept : B → Kept) (old new : SevenOf B) (what : Spec → Kept) (specs : List Spec) (i : ℕ) (d : Spec) → AreDistinct specs → i < length specs
+    → All (λ spec. kept_in kept old spec ≡ what spec) (take i specs) → kept_in kept new (get_or specs i d) ≡ what (get_or specs i d)
     → ((other : Spec) → kind_of other ≢ kind_of (get_or specs i d) → kept_in kept new other ≡ kept_in kept old other)
-    → All (λ spec. kept_in kept new spec ≡ fresh spec) (take (i + 1) specs)
-fresh-more kept old new specs i d are within before here others =
-    let P : Spec → Type 0 = λ spec. kept_in kept new spec ≡ fresh spec in
+    → All (λ spec. kept_in kept new spec ≡ what spec) (take (i + 1) specs)
+kept-more kept old new what specs i d are within before here others =
+    let P : Spec → Type 0 = λ spec. kept_in kept new spec ≡ what spec in
     All-more P specs i d within
     (λ k e below.
     let early : k < i = omega (arith, length-take i specs) in

@@ -4,6 +4,7 @@ pub mod Feeding
 pub mod Fitting
 pub mod Level
 pub mod Pulling
+pub mod Resuming
 pub mod Standing
 pub mod Streaming
 pub mod Waiting

@@ -6,4 +6,5 @@ pub mod Chains
 pub mod Pulls
 pub mod Pushes
 pub mod Gives
+pub mod Resumes
 pub mod Rings

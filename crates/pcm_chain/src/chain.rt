@@ -8,7 +8,7 @@ ghost use Rattle.pcm_chain.specs.Counts.{AreBounded};
 ghost use Rattle.pcm_chain.specs.declared.staging.TheConstants.{BLOCK_SAMPLES};
 
 use crate::counts::{Counts, RatedCounts};
-use crate::stages::{feed_stages, fit_stages};
+use crate::stages::{feed_stages, fit_stages, resume_stages};
 use crate::staging::{BLOCK_SAMPLES, Staging};
 use pcm_feeder::{Feeder, Gain, RackOf, SevenOf, Tables, UNITY};
 use pcm_format::{Format, Layout};
@@ -60,6 +60,7 @@ impl<B: Feeder> ChainOf<B> {
     ghost use Rattle.pcm_chain.specs.Gives.{filling_frames, CanGive, GivesABlock, GivesExactly, GivesOn};
     ghost use Rattle.pcm_chain.specs.Pulls.{waiting_frames, CanPull, LeavesBehind, PullsOn};
     ghost use Rattle.pcm_chain.specs.Pushes.{pushed_frames, room_for, CanRecord, HasRecorded, PushesOn, StaysRecording};
+    ghost use Rattle.pcm_chain.specs.Resumes.{Resumes};
     ghost use Rattle.pcm_chain.specs.Rings.{put_bytes, GrowsBy};
     ghost use Rattle.pcm_chain.specs.declared.staging.TheConstants.{BLOCK_FRAMES};
     ghost use Rattle.pcm_chain.specs.declared.chain.TheConstants.{PUSHED_FRAMES};
@@ -118,6 +119,24 @@ impl<B: Feeder> ChainOf<B> {
     {
         self.counts = Counts::none();
         fit_stages(&mut self.boxes, self.plan.stages());
+    }
+
+    /// Goes on where another chain is, by its plan: whatever frames that one stands for, this one stands for too. Takes no memory.
+    pub fn resume_from(&mut self, other: &ChainOf<B>)
+        requires kinds { IsOfKinds B.kind self.old }
+        requires fitted { AreFitted B.kept other.now }
+        ensures { Resumes B.kind B.kept B.mark other.now self.old self.new }
+    {
+        // The old counts are of the old plan's rate, the other's of its own: between the two there are none.
+        self.counts = Counts::none();
+        self.plan = other.plan.copy();
+        self.counts = other.counts;
+        resume_stages(
+            &mut self.boxes,
+            &other.boxes,
+            self.plan.stages(),
+            &mut self.staging.now,
+        );
     }
 
     /// Takes frames out of a ring, and gives at most `want` frames at the front of `out`. Where the stream

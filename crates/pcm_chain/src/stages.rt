@@ -4,20 +4,20 @@ ghost use Rattle.std.specs.Prelude.{◌≡◌, ◌≤◌, ◌*◌, length, All};
 ghost use Rattle.pcm_num.specs.Limit.{FitsBits};
 ghost use Rattle.pcm_rate.specs.Rates.{unchanged};
 ghost use Rattle.pcm_feeder.specs.declared.stage.Spec.{Spec};
-ghost use Rattle.pcm_feeder.specs.Kept.{fresh};
+ghost use Rattle.pcm_feeder.specs.Kept.{fresh, CanCopy, CanResume, IsKeptAs};
 ghost use Rattle.pcm_feeder.specs.Limits.{AreChannels, IsSpec, IsGain};
 ghost use Rattle.pcm_feeder.specs.Racks.{marks_of, HaveKinds};
-ghost use Rattle.pcm_feeder.specs.Stages.{channels_in, channels_out};
+ghost use Rattle.pcm_feeder.specs.Stages.{channels_in, channels_out, history};
 ghost use Rattle.pcm_feeder.specs.Streams.{written};
 ghost use Rattle.pcm_plan.specs.Plans.{rate_among};
 ghost use Rattle.pcm_plan.specs.Fits.{AreDistinct, HaveBits, HaveTables};
 ghost use Rattle.pcm_chain.specs.Bits.{bits_after};
-ghost use Rattle.pcm_chain.specs.Boxes.{kept_in, CanFit, HaveFitted, KeepOthers, KeepAllOthers};
+ghost use Rattle.pcm_chain.specs.Boxes.{kept_in, CanFit, CanResumeAll, HasResumed, HaveResumed, HaveFitted, KeepOthers, KeepAllOthers};
 ghost use Rattle.pcm_chain.specs.Feeds.{asked, fed_in, first_staged, CanFeedIn, GoneThrough, HaveRoom};
-ghost use Rattle.pcm_chain.specs.declared.staging.TheConstants.{BLOCK_FRAMES};
+ghost use Rattle.pcm_chain.specs.declared.staging.TheConstants.{BLOCK_FRAMES, BLOCK_SAMPLES};
 
 use crate::staging::Staging;
-use pcm_feeder::{Feeder, Gain, Pull, SevenOf, Spec, Tables};
+use pcm_feeder::{Feeder, Gain, Progress, Pull, SevenOf, Spec, Tables};
 
 /// Fits the box of each stage to it. Each box stays in its place.
 pub fn fit_stages<B: Feeder>(boxes: &mut SevenOf<B>, stages: &[Spec])
@@ -49,6 +49,57 @@ fn fit_stage<B: Feeder>(boxes: &mut SevenOf<B>, spec: Spec)
         Spec::Volume { .. } => boxes.volume.fit(spec),
         Spec::Depth { .. } => boxes.depth.fit(spec),
         Spec::Eq { .. } => boxes.eq.fit(spec),
+    }
+}
+
+/// Lets the box of each stage go on where another rack's box of it is. Each box stays in its place. The samples are scratch.
+pub fn resume_stages<B: Feeder>(
+    boxes: &mut SevenOf<B>,
+    others: &SevenOf<B>,
+    stages: &[Spec],
+    samples: &mut [i32],
+)
+    requires can { CanResumeAll B.kind B.kept stages.now boxes.old others.now }
+    requires room { BLOCK_SAMPLES ≤ length samples.old }
+    ensures { HaveResumed B.kind B.kept B.mark stages.now others.now boxes.old boxes.new }
+{
+    for spec in stages {
+        let kept = &mut samples[..history(*spec) * channels_in(*spec)];
+        let progress = keep_stage(others, *spec, kept);
+        resume_stage(boxes, *spec, progress, kept);
+    }
+}
+
+// Copies what the box of a stage keeps, and tells how far it is.
+fn keep_stage<B: Feeder>(boxes: &SevenOf<B>, spec: Spec, samples: &mut [i32]) -> Progress
+    requires { CanCopy spec (kept_in B.kept boxes.now spec) samples.old }
+    ensures { IsKeptAs (kept_in B.kept boxes.now spec) result samples.new }
+{
+    match spec {
+        Spec::Matrix { .. } => boxes.matrix.keep(samples),
+        Spec::Hold { .. } => boxes.hold.keep(samples),
+        Spec::Linear { .. } => boxes.linear.keep(samples),
+        Spec::Poly { .. } => boxes.poly.keep(samples),
+        Spec::Volume { .. } => boxes.volume.keep(samples),
+        Spec::Depth { .. } => boxes.depth.keep(samples),
+        Spec::Eq { .. } => boxes.eq.keep(samples),
+    }
+}
+
+// Lets the box of a stage go on from what was kept. The other boxes keep what they kept.
+fn resume_stage<B: Feeder>(boxes: &mut SevenOf<B>, spec: Spec, progress: Progress, samples: &[i32])
+    requires kinds { HaveKinds B.kind boxes.old }
+    requires can { CanResume spec progress samples.now }
+    ensures { HasResumed B.kind B.kept B.mark spec progress samples.now boxes.old boxes.new }
+{
+    match spec {
+        Spec::Matrix { .. } => boxes.matrix.resume(spec, progress, samples),
+        Spec::Hold { .. } => boxes.hold.resume(spec, progress, samples),
+        Spec::Linear { .. } => boxes.linear.resume(spec, progress, samples),
+        Spec::Poly { .. } => boxes.poly.resume(spec, progress, samples),
+        Spec::Volume { .. } => boxes.volume.resume(spec, progress, samples),
+        Spec::Depth { .. } => boxes.depth.resume(spec, progress, samples),
+        Spec::Eq { .. } => boxes.eq.resume(spec, progress, samples),
     }
 }
 
@@ -189,5 +240,19 @@ fn channels_out(spec: Spec) -> usize
     match spec {
         Spec::Matrix { to, .. } => to.channels(),
         _ => channels_in(spec),
+    }
+}
+
+// How many frames of the past a stage keeps.
+fn history(spec: Spec) -> usize
+    requires { IsSpec spec }
+    ensures { result ≡ history spec }
+{
+    match spec {
+        Spec::Hold { .. } => 1,
+        Spec::Linear { .. } => 2,
+        Spec::Poly { taps, .. } => taps,
+        Spec::Eq { sections, .. } => 2 + 2 * sections,
+        _ => 0,
     }
 }
