@@ -4,3 +4,4 @@ pub mod Held
 pub mod Books
 pub mod Pieces
 pub mod Moving
+pub mod Resuming

@@ -109,6 +109,15 @@ pub record MapBegins {B : Type 0} (kind : B → Kind) (kept : B → Kept) (filte
   pub moves : MapMoves kind kept filters [] 0 old new
   pub area : area_of new ≡ silent_area new.book.opening
 
+-- a channel stands for whatever another one stands for, by the same book and with the same area, and its chain goes by the plan that the
+-- other's goes by
+pub record MapStandsAs {B : Type 0} (kept : B → Kept) (other channel : MapChannelOf B) : Type 0 where
+  pub book : channel.book ≡ other.book
+  pub area : area_of channel ≡ area_of other
+  pub planned : (filters : Filters) → IsMapServed filters other → IsMapServed filters channel
+  pub stands : (filters : Filters) (bytes : List ℕ) → MapStands kept filters other other.book bytes
+      → MapStands kept filters channel channel.book bytes
+
 -- what a channel needs so that an interrupt can mix n of its frames at a gain
 pub record CanMixMap {B : Type 0} (kind : B → Kind) (kept : B → Kept) (filters : Filters) (n : ℕ) (gain : Gain) (frames sum : List ℤ)
     (channel : MapChannelOf B) : Type 0 where

@@ -44,6 +44,15 @@ pub fn silence(area: &mut [u8], opening: &Opening)
     fill_silent(&mut area[..size], opening.settings.format);
 }
 
+/// Makes the first `size` bytes those of another area.
+pub fn copy_front(area: &mut [u8], other: &[u8], size: usize)
+    requires room { size ≤ length area.old }
+    requires there { size ≤ length other.now }
+    ensures { take size area.new ≡ take size other.now }
+{
+    area[..size].copy_from_slice(&other[..size]);
+}
+
 // Each byte is one of the spelling of 0.
 fn fill_silent(bytes: &mut [u8], format: Format)
     ensures { bytes.new ≡ map (silent_byte format) (range_with_len 0 (length bytes.old)) }

@@ -21,7 +21,7 @@ ghost use Rattle.pcm_chain.specs.Chains.{marks_in, HasRack};
 ghost use Rattle.pcm_path.specs.Paths.{path_rate, CanBegin, CanServe, ChannelMoves, HasBoxes, IsEmpty, IsPlanned};
 ghost use Rattle.std.proofs.Props.{props};
 
-use crate::area::{put_round, recut, silence};
+use crate::area::{copy_front, put_round, recut, silence};
 use pcm_desk::{Device, MapBook, Opening, RunState};
 use pcm_feeder::{Feeder, Gain, RackOf, Tables, apply_gain};
 use pcm_format::Settings;
@@ -177,7 +177,7 @@ impl<B: Feeder> MapChannelOf<B> {
 }
 
 impl<B: Feeder> Channel<B> for MapChannelOf<B> {
-    ghost use Rattle.pcm_map.specs.Channels.{IsMapUnopened, MapBegins};
+    ghost use Rattle.pcm_map.specs.Channels.{IsMapUnopened, MapBegins, MapStandsAs};
 
     ghost path = { λ channel. channel.path };
 
@@ -187,6 +187,8 @@ impl<B: Feeder> Channel<B> for MapChannelOf<B> {
 
     ghost begins = { λ filters settings.
         ChannelMoves (λ channel. channel.path) (λ channel. channel.book) (map_begun settings) (MapBegins B.kind B.kept filters) };
+
+    ghost stands_as = { MapStandsAs B.kept };
 
     fn new(alloc: Global, device: Device, tables: &Tables, rack: RackOf<B>) -> Made<Self>
         requires { CanServe B.kind device rack }
@@ -213,6 +215,13 @@ impl<B: Feeder> Channel<B> for MapChannelOf<B> {
         self.book = MapBook::begun(settings);
         begin_run(&mut self.path, tables, &self.book.opening);
         silence(&mut self.area, &self.book.opening);
+    }
+
+    fn resume_from(&mut self, other: &Self) {
+        self.book = other.book;
+        self.path.resume_from(&other.path, !other.is_free());
+        let size = other.book.opening.fragments.size() as usize;
+        copy_front(&mut self.area, &other.area, size);
     }
 }
 

@@ -27,6 +27,7 @@ pub struct PathOf<B> {
 
 impl<B: Feeder> PathOf<B> {
     ghost use Rattle.pcm_path.specs.Paths.{CanBegin, HasBegun, HasBoxes, HasEnded, IsMadeOf};
+    ghost use Rattle.pcm_path.specs.Resumes.{CanResumePath, PathResumes};
 
     /// A path of a device with the boxes of a rack, for no opening yet. All its memory is taken here.
     pub fn new(alloc: Global, device: Device, rack: RackOf<B>) -> Result<PathOf<B>, AllocError>
@@ -62,6 +63,18 @@ impl<B: Feeder> PathOf<B> {
     {
         self.ring.clear();
         self.chain.restart();
+    }
+
+    /// Goes on where another path of the same device is: with the bytes that wait there and, where somebody has that one, with all that its
+    /// chain has eaten and given. Takes no memory.
+    pub fn resume_from(&mut self, other: &PathOf<B>, held: bool)
+        requires { CanResumePath B.kind B.kept held other.now self.old }
+        ensures { PathResumes B.kind B.kept B.mark held other.now self.old self.new }
+    {
+        self.ring.copy_from(&other.ring);
+        if held {
+            self.chain.resume_from(&other.chain);
+        }
     }
 }
 

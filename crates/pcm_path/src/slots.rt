@@ -17,6 +17,7 @@ pub trait Channel<B: Feeder>: Drop {
     ghost use Rattle.pcm_desk.specs.declared.device.Device.{Device};
     ghost use Rattle.pcm_path.specs.declared.path.PathOf.{PathOf};
     ghost use Rattle.pcm_path.specs.Paths.{CanServe, CanOpen};
+    ghost use Rattle.pcm_path.specs.Resumes.{CanResumeChannel, ChannelResumes};
 
     // The way of its sound, with its device.
     ghost path: { Self → PathOf B };
@@ -28,6 +29,9 @@ pub trait Channel<B: Feeder>: Drop {
 
     // What an opening with these settings makes of it.
     ghost begins: { Filters → Settings → Self → Self → Type 0 };
+
+    // The second stands for whatever the first one does.
+    ghost stands_as: { Self → Self → Type 0 };
 
     /// A channel of a device that nobody has opened. All its memory is taken here.
     fn new(alloc: Global, device: Device, tables: &Tables, rack: RackOf<B>) -> Made<Self>
@@ -43,4 +47,9 @@ pub trait Channel<B: Feeder>: Drop {
     fn begin(&mut self, tables: &Tables, settings: Settings)
         requires { CanOpen B.kind settings (path self.old) }
         ensures { begins tables.now settings self.old self.new };
+
+    /// Goes on where another channel of the same device is. Takes no memory.
+    fn resume_from(&mut self, other: &Self)
+        requires { CanResumeChannel path is_free B.kind B.kept other.now self.old }
+        ensures { ChannelResumes path stands_as B.kind B.mark other.now self.old self.new };
 }

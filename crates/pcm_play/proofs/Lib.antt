@@ -3,3 +3,4 @@ pub mod Stands
 pub mod Held
 pub mod Moving
 pub mod Refilling
+pub mod Resuming

@@ -100,6 +100,13 @@ pub record PlayMoves {B : Type 0} (kind : B → Kind) (kept : B → Kept) (filte
   pub grown : new.book.done + new.book.written ≤ old.book.done + old.book.written + RING_BYTES
   pub given : new.book.given ≤ old.book.given + frames
 
+-- a channel stands for whatever another one stands for, by the same book, and its chain goes by the plan that the other's goes by
+pub record PlayStandsAs {B : Type 0} (kept : B → Kept) (other channel : PlayChannelOf B) : Type 0 where
+  pub book : channel.book ≡ other.book
+  pub planned : (filters : Filters) → IsPlayServed filters other → IsPlayServed filters channel
+  pub stands : (filters : Filters) (bytes : List ℕ) → PlayStands kept filters other other.book bytes
+      → PlayStands kept filters channel channel.book bytes
+
 -- what a channel needs so that it can be asked something, where the mix and the device are
 pub record MayAskPlay {B : Type 0} (kind : B → Kind) (filters : Filters) (place : Here) (channel : PlayChannelOf B) : Type 0 where
   pub kinds : HasBoxes kind channel.path

@@ -156,7 +156,7 @@ impl<B: Feeder> PlayChannelOf<B> {
 }
 
 impl<B: Feeder> Channel<B> for PlayChannelOf<B> {
-    ghost use Rattle.pcm_play.specs.Channels.{IsPlayUnopened, PlayMoves};
+    ghost use Rattle.pcm_play.specs.Channels.{IsPlayUnopened, PlayMoves, PlayStandsAs};
 
     ghost path = { λ channel. channel.path };
 
@@ -166,6 +166,8 @@ impl<B: Feeder> Channel<B> for PlayChannelOf<B> {
 
     ghost begins = { λ filters settings.
         ChannelMoves (λ channel. channel.path) (λ channel. channel.book) (play_begun settings) (PlayMoves B.kind B.kept filters [] 0) };
+
+    ghost stands_as = { PlayStandsAs B.kept };
 
     fn new(alloc: Global, device: Device, tables: &Tables, rack: RackOf<B>) -> Made<Self>
         requires { CanServe B.kind device rack }
@@ -188,6 +190,11 @@ impl<B: Feeder> Channel<B> for PlayChannelOf<B> {
     fn begin(&mut self, tables: &Tables, settings: Settings) {
         self.book = PlayBook::begun(settings);
         self.path.begin(Way::Play, tables, &self.book.opening);
+    }
+
+    fn resume_from(&mut self, other: &Self) {
+        self.book = other.book;
+        self.path.resume_from(&other.path, !other.is_free());
     }
 }
 

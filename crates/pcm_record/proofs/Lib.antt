@@ -2,3 +2,4 @@ pub mod Stands
 pub mod Held
 pub mod Moving
 pub mod Capturing
+pub mod Resuming

@@ -92,6 +92,13 @@ pub record RecordMoves {B : Type 0} (kind : B → Kind) (keeps : B → Kept) (fi
   pub captured : new.book.captured ≤ old.book.captured + length input
   pub kept : new.book.kept ≤ old.book.kept + RING_BYTES
 
+-- a channel stands for whatever another one stands for, by the same book, and its chain goes by the plan that the other's goes by
+pub record RecordStandsAs {B : Type 0} (kept : B → Kept) (other channel : RecordChannelOf B) : Type 0 where
+  pub book : channel.book ≡ other.book
+  pub planned : (filters : Filters) → IsRecordServed filters other → IsRecordServed filters channel
+  pub stands : (filters : Filters) (bytes : List ℕ) (frames : List Frame) → RecordStands kept filters other other.book bytes frames
+      → RecordStands kept filters channel channel.book bytes frames
+
 -- what a read leaves of a channel, and of the bytes that it may fill
 pub record RecordReads {B : Type 0} (kind : B → Kind) (keeps : B → Kept) (result : Result Answer Errno) (old new : RecordChannelOf B)
     (before after : List ℕ) : Type 0 where

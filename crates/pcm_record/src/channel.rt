@@ -110,7 +110,7 @@ impl<B: Feeder> RecordChannelOf<B> {
 }
 
 impl<B: Feeder> Channel<B> for RecordChannelOf<B> {
-    ghost use Rattle.pcm_record.specs.Channels.{IsRecordUnopened, RecordMoves};
+    ghost use Rattle.pcm_record.specs.Channels.{IsRecordUnopened, RecordMoves, RecordStandsAs};
 
     ghost path = { λ channel. channel.path };
 
@@ -120,6 +120,8 @@ impl<B: Feeder> Channel<B> for RecordChannelOf<B> {
 
     ghost begins = { λ filters settings.
         ChannelMoves (λ channel. channel.path) (λ channel. channel.book) (record_begun settings) (RecordMoves B.kind B.kept filters [] 0) };
+
+    ghost stands_as = { RecordStandsAs B.kept };
 
     fn new(alloc: Global, device: Device, tables: &Tables, rack: RackOf<B>) -> Made<Self>
         requires { CanServe B.kind device rack }
@@ -142,6 +144,11 @@ impl<B: Feeder> Channel<B> for RecordChannelOf<B> {
     fn begin(&mut self, tables: &Tables, settings: Settings) {
         self.book = RecordBook::begun(settings);
         self.path.begin(Way::Record, tables, &self.book.opening);
+    }
+
+    fn resume_from(&mut self, other: &Self) {
+        self.book = other.book;
+        self.path.resume_from(&other.path, !other.is_free());
     }
 }
 
