@@ -1,3 +1,4 @@
 pub mod Channels
 pub mod Blocks
 pub mod Handovers
+pub mod Resuming

@@ -6,7 +6,7 @@ ghost use Rattle.pcm_num.specs.Limit.{FitsBits};
 ghost use Rattle.pcm_format.specs.Formats.{bits_of};
 ghost use Rattle.pcm_format.specs.Frames.{frame_bytes};
 ghost use Rattle.pcm_format.specs.Layouts.{channels_of};
-ghost use Rattle.pcm_chain.specs.Chains.{HasRack};
+ghost use Rattle.pcm_chain.specs.Chains.{AreFitted, HasRack, IsOfKinds};
 ghost use Rattle.pcm_desk.specs.declared.limits.TheConstants.{MIX_FRAMES, RING_FRAMES};
 ghost use Rattle.pcm_desk.specs.Channels.{mixed_by};
 ghost use Rattle.pcm_desk.specs.Device.{mix_frames, seen, unfiltered};
@@ -46,6 +46,8 @@ pub struct BusOf<B> {
 }
 
 impl<B: Feeder> BusOf<B> {
+    ghost use Rattle.pcm_bus.specs.Resumes.{BusResumes};
+
     /// A bus of a device, with the boxes of a rack, which has made nothing yet. All its memory is taken here.
     pub fn new(
         alloc: Global,
@@ -57,6 +59,7 @@ impl<B: Feeder> BusOf<B> {
         ensures device { IfOk result (λ made. made.device ≡ device) }
         ensures planned { IfOk result (λ made. IsPlannedBy (seen tables.now device) made.chain) }
         ensures made { IfOk result (λ made. HasMade B.kept (seen tables.now device) made.chain [] 0) }
+        ensures kinds { IfOk result (λ made. IsOfKinds B.kind made.chain) }
         ensures boxes { IfOk result (λ made. HasRack B.mark rack made.chain) }
     {
         let mut chain = ChainOf::new(alloc, rack)?;
@@ -134,6 +137,16 @@ impl<B: Feeder> BusOf<B> {
             out,
         );
         count
+    }
+
+    /// Goes on where another bus of the same device is: with all that its chain has eaten and given. What is mixed at an interrupt is
+    /// scratch, and stays. Takes no memory.
+    pub fn resume_from(&mut self, other: &BusOf<B>)
+        requires kinds { IsOfKinds B.kind self.old.chain }
+        requires fitted { AreFitted B.kept other.now.chain }
+        ensures { BusResumes B.kind B.kept B.mark other.now self.old self.new }
+    {
+        self.chain.resume_from(&other.chain);
     }
 
     // How many frames an interrupt of `n` mixes, after `handed` were handed over.

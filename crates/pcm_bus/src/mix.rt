@@ -226,6 +226,7 @@ pub fn silent_ring(alloc: Global, device: Device) -> Result<ByteRing, AllocError
     requires { device.ring_frames ≤ RING_FRAMES }
     ensures size { IfOk result (λ made. made.size ≡ device.ring_frames * frame_bytes device.settings) }
     ensures full { IfOk result (λ made. length made.bytes ≡ device.ring_frames * frame_bytes device.settings) }
+    ensures room { IfOk result (λ made. made.max ≡ made.size) }
     ensures ring { IfOk result (λ made. made.bytes ≡ silent_ring (unfiltered device)) }
 {
     let settings = device.settings;

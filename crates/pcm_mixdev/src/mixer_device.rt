@@ -44,6 +44,15 @@ impl MixDev {
         }
     }
 
+    /// Holds the volumes and mutes that another one holds.
+    pub fn copy_from(&mut self, other: &MixDev)
+        ensures { self.new ≡ other.now }
+    {
+        self.master = other.master;
+        self.volumes = other.volumes;
+        self.muted = other.muted;
+    }
+
     /// A request, where there are `slots` slots: those that play, then those of mapped areas. A volume that isn't one, a slot that isn't
     /// among these, and a mute that is neither 0 nor 1 are invalid, and change nothing.
     pub fn ask(&mut self, slots: u32, request: MixRequest) -> Result<Answer, Errno>
