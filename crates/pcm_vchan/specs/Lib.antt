@@ -5,3 +5,4 @@ pub mod Openings
 pub mod Parents
 pub mod Racks
 pub mod Lending
+pub mod Clones

@@ -7,6 +7,7 @@ ghost use Rattle.pcm_format.specs.Frames.{frame_bytes};
 ghost use Rattle.pcm_format.specs.Layouts.{channels_of};
 ghost use Rattle.pcm_feeder.specs.Limits.{IsRate};
 ghost use Rattle.pcm_feeder.specs.Racks.{AreRacks, list_of};
+ghost use Rattle.pcm_chain.specs.Chains.{IsOfKinds};
 ghost use Rattle.pcm_desk.specs.declared.limits.TheConstants.{RING_FRAMES};
 ghost use Rattle.pcm_oss.specs.declared.event.TheConstants.{SLOTS};
 ghost use Rattle.pcm_mixdev.specs.Mixers.{full_mixer};
@@ -24,7 +25,7 @@ ghost use Rattle.pcm_bus.specs.Handovers.{HasMade, IsPlannedBy};
 
 use crate::recorder::Capture;
 use crate::settler::Settling;
-use crate::slots::{open_in, unopened};
+use crate::slots::{open_in, resume_all, unopened};
 use crate::starter::{GroupStart, are_ready};
 use crate::walk::walk;
 use pcm_bus::{BusOf, silent_ring};
@@ -71,6 +72,7 @@ pub struct ParentOf<B> {
 impl<B: Feeder> ParentOf<B> {
     ghost use Rattle.pcm_oss.specs.declared.event.Way.TheVariants.{Play, Record, Map};
     ghost use Rattle.pcm_vchan.specs.Parents.{map_channels, play_books, play_channels, record_books, record_channels, mixed_in, AreDue, AreMapUnopened, ArePlayUnopened, AreRecordUnopened, AreServed, EachCaptures, EachMapPlays, EachPasses, EachPlayMoves, EachRecordMoves, HasBus, HasLimits, HasRoomFor, KeepsRest, KeepsOutput, OpensMap, OpensPlay, OpensRecord, BusTurns, HasRacks, TotalsFit, here_of};
+    ghost use Rattle.pcm_vchan.specs.Clones.{IsParentClone};
     ghost use Rattle.pcm_vchan.specs.Lending.{map_place, LendsChannel, LendsMap, LendsMixer, LendsRecorder};
 
     /// A device that nobody has opened, whose ring is full of silence. Each slot gets a rack: those that play the first ones, mapped ones
@@ -92,8 +94,10 @@ impl<B: Feeder> ParentOf<B> {
         ensures recording { IfOk result (AreRecordUnopened B.kind B.kept tables.now device) }
         ensures planned { IfOk result (λ made. IsPlannedBy (seen tables.now device) made.bus.chain) }
         ensures made { IfOk result (λ made. HasMade B.kept (seen tables.now device) made.bus.chain [] 0) }
+        ensures bus_kinds { IfOk result (λ made. IsOfKinds B.kind made.bus.chain) }
         ensures mixer { IfOk result (λ made. made.mixer ≡ full_mixer) }
         ensures ring { IfOk result (λ made. made.ring.bytes ≡ silent_ring (seen tables.now device)) }
+        ensures room { IfOk result (λ made. made.ring.max ≡ made.ring.size) }
         ensures handed { IfOk result (λ made. made.handed ≡ 0) }
         ensures mixed { IfOk result (λ made. made.mixed ≡ 0) }
         ensures racks { IfOk result (HasRacks B.mark (list_of racks)) }
@@ -124,6 +128,34 @@ impl<B: Feeder> ParentOf<B> {
             mixed: 0,
             passed: device.passed(0),
         })
+    }
+
+    /// A parent that goes on where this one is, with the boxes of other racks: whatever its channels and its bus stand for, those of the clone stand for
+    /// too. All memory of the clone is taken here.
+    pub fn try_clone(
+        &self,
+        alloc: Global,
+        tables: &Tables,
+        racks: RacksOf<B>,
+    ) -> Result<ParentOf<B>, AllocError>
+        requires limits { HasLimits self.now.device }
+        requires kinds { AreRacks B.kind (list_of racks) }
+        requires served { AreServed B.kind B.kept tables.now self.now }
+        requires bus { HasBus B.kept (seen tables.now self.now.device) self.now }
+        ensures clone { IfOk result (IsParentClone B.kind B.kept self.now) }
+        ensures racks { IfOk result (HasRacks B.mark (list_of racks)) }
+    {
+        let mut clone = ParentOf::new(alloc, self.device, tables, racks)?;
+        resume_all(&mut clone.channels, &self.channels);
+        resume_all(&mut clone.recorders, &self.recorders);
+        resume_all(&mut clone.maps, &self.maps);
+        clone.mixer.copy_from(&self.mixer);
+        clone.bus.resume_from(&self.bus);
+        clone.ring.copy_from(&self.ring);
+        clone.handed = self.handed;
+        clone.mixed = self.mixed;
+        clone.passed = self.passed;
+        Ok(clone)
     }
 
     /// An opening begins in the least free slot of its way. Answers the number of this slot: mapped ones are numbered after those that play.

@@ -7,6 +7,9 @@ ghost use Rattle.pcm_feeder.specs.Racks.{AreRacks, rack_marks};
 ghost use Rattle.pcm_oss.specs.declared.event.TheConstants.{SLOTS};
 ghost use Rattle.pcm_desk.specs.Device.{HasRates};
 ghost use Rattle.pcm_path.specs.Paths.{HasBoxes};
+ghost use Rattle.pcm_path.specs.Resumes.{CanResumeChannel};
+ghost use Rattle.pcm_bus.specs.Slots.{Each};
+ghost use Rattle.pcm_vchan.specs.Clones.{SlotsResume};
 ghost use Rattle.pcm_vchan.specs.Openings.{BeginsIn, slot_or_busy};
 ghost use Rattle.pcm_vchan.specs.Racks.{channel_marks};
 
@@ -64,6 +67,19 @@ pub(crate) fn open_in<B: Feeder, C: Channel<B>>(
     };
     channels[slot].begin(tables, settings);
     Ok(first + slot)
+}
+
+/// In each slot the channel goes on where that of the slot is among others, of the same device.
+pub(crate) fn resume_all<B: Feeder, C: Channel<B>>(channels: &mut Fixed<C>, others: &Fixed<C>)
+    requires count { fixed_len others.now ≡ fixed_len channels.old }
+    requires can { Each (CanResumeChannel C.path C.is_free B.kind B.kept) (fixed_items others.now) (fixed_items channels.old) }
+    ensures len { fixed_len channels.new ≡ fixed_len channels.old }
+    ensures resumed { SlotsResume C.path C.stands_as B.kind B.mark
+        (fixed_items others.now) (fixed_items channels.old) (fixed_items channels.new) }
+{
+    for slot in 0..others.iter().len() {
+        channels[slot].resume_from(&others[slot]);
+    }
 }
 
 // The least slot whose channel is free, if there is one.

@@ -116,3 +116,6 @@ pub passed-requires-clause-count : goal.passed-requires-clause-count
 passed-requires-clause-count g c =
     let none = passed-none (unfiltered c.args.device) c.requires.limits.rates.mix_rate in
     omega (arith, ints, none)
+
+pub returns-clause-bus_kinds : goal.returns-clause-bus_kinds
+returns-clause-bus_kinds g c = c.in_ok-bus.ensures.kinds
