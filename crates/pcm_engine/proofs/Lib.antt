@@ -14,3 +14,4 @@ pub mod Applying
 pub mod Called
 pub mod Starting
 pub mod Stepping
+pub mod Cloning

@@ -10,3 +10,4 @@ pub mod Stands
 pub mod Engines
 pub mod Views
 pub mod Types
+pub mod Clones

@@ -36,6 +36,19 @@ impl Descriptors {
         })
     }
 
+    /// Descriptors that hold the same channels, in the same groups.
+    // Not inlined: the list stands on the stack only while it is copied.
+    #[inline(never)]
+    pub fn try_clone(&self, alloc: Global) -> Result<Descriptors, AllocError>
+        ensures held { IfOk result (λ clone. clone.held.value ≡ self.now.held.value) }
+        ensures groups { IfOk result (λ clone. clone.groups ≡ self.now.groups) }
+    {
+        Ok(Descriptors {
+            held: Box::new(alloc, *self.held)?,
+            groups: self.groups,
+        })
+    }
+
     /// That a descriptor is shut, and may be opened.
     pub fn shut(&self, fd: u8) -> Result<(), Errno>
         ensures { result ≡ shut (slice_index_or self.now.held.value fd None) }

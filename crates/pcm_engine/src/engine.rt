@@ -18,6 +18,7 @@ use crate::calls::call;
 use crate::clients::answer_read;
 use crate::descriptors::Descriptors;
 use crate::interrupts::interrupt;
+use crate::tables::copied;
 use pcm_desk::Device;
 use pcm_feeder::{Feeder, RacksOf, Tables};
 use pcm_oss::{Answer, Errno, Event, REPLY_BYTES, ReplyBuf};
@@ -45,7 +46,8 @@ impl<B: Feeder> EngineOf<B> {
     ghost use Rattle.pcm_wave.specs.Pools.{IsCaptureIn};
     ghost use Rattle.pcm_desk.specs.Device.{device_settings};
     ghost use Rattle.pcm_engine.specs.Brought.{padded};
-    ghost use Rattle.pcm_feeder.specs.Racks.{list_of};
+    ghost use Rattle.pcm_feeder.specs.Racks.{AreRacks, list_of};
+    ghost use Rattle.pcm_engine.specs.Clones.{IsCloneOf};
     ghost use Rattle.pcm_engine.specs.Engines.{AreReady, CanBeMade, CanStep, CanStepWith, HasStepped, Stands, StepsAs, StepsAsCalled, device_of, samples_at_hand, samples_most};
 
     /// The engine of a device with its filters, before its first event. Its channels pick their stages from the racks, one rack a slot; after
@@ -68,6 +70,28 @@ impl<B: Feeder> EngineOf<B> {
         let descriptors = Descriptors::all_shut(alloc)?;
         let samples = device.ring_frames as usize * device.settings.layout.channels();
         let captured = vec![in alloc; 0i32; samples]?;
+        let answered = vec![in alloc; 0u8; REPLY_BYTES]?;
+        Ok(EngineOf {
+            parent,
+            tables,
+            descriptors,
+            captured: Fixed::new(captured),
+            answered: Fixed::new(answered),
+        })
+    }
+
+    /// An engine that goes on where this one is, with the boxes of other racks, one rack a slot; after a refusal the racks are dropped. All memory of the clone
+    /// is taken here, and nothing is shared.
+    pub fn try_clone(&self, alloc: Global, racks: RacksOf<B>) -> Result<EngineOf<B>, AllocError>
+        requires ready { AreReady B.kind B.kept self.now }
+        requires kinds { AreRacks B.kind (list_of racks) }
+        ensures clone { IfOk result (IsCloneOf B.kind B.kept self.now) }
+        ensures racks { IfOk result (λ clone. HasRacks B.mark (list_of racks) clone.parent) }
+    {
+        let tables = copied(alloc, &self.tables)?;
+        let parent = self.parent.try_clone(alloc, &tables, racks)?;
+        let descriptors = self.descriptors.try_clone(alloc)?;
+        let captured = vec![in alloc; 0i32; self.captured.iter().len()]?;
         let answered = vec![in alloc; 0u8; REPLY_BYTES]?;
         Ok(EngineOf {
             parent,

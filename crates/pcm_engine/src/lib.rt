@@ -12,6 +12,7 @@ mod interrupts;
 mod laws;
 mod limits;
 mod mixer_calls;
+mod tables;
 mod views;
 
 pub use brought::{bytes_asked, bytes_handed, samples_asked};
