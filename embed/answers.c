@@ -32,7 +32,7 @@ static const struct dsp_device device = {
 };
 
 static void without_an_engine(void) {
-    struct dsp_engine none = DSP_NO_ENGINE;
+    struct dsp_engine none = DSP_NO_ENGINE, other = DSP_NO_ENGINE;
     struct dsp_answer answer;
     uint8_t bytes[64];
 
@@ -47,10 +47,14 @@ static void without_an_engine(void) {
     IS(dsp_engine_mixer(&none, DSP_GET_MASTER, 0, 0, &answer), DSP_NOT_AN_ENGINE);
     IS(dsp_engine_interrupt(&none, 1, NULL, 0, bytes, sizeof bytes), DSP_NOT_AN_ENGINE);
     IS(dsp_engine_frames_left(&none), 0);
+    IS(dsp_engine_clone(&none, &other), DSP_NOT_AN_ENGINE);
+    IS(dsp_engine_clone(&none, &none), DSP_NOT_AN_ENGINE);
+    IS(other.there, false);
     dsp_engine_free(&none);
 }
 
 static void without_a_handle(void) {
+    struct dsp_engine none = DSP_NO_ENGINE;
     struct dsp_answer answer;
     uint8_t bytes[64];
 
@@ -67,6 +71,8 @@ static void without_a_handle(void) {
     IS(dsp_engine_mixer(NULL, DSP_GET_MASTER, 0, 0, &answer), DSP_NULL_POINTER);
     IS(dsp_engine_interrupt(NULL, 1, NULL, 0, bytes, sizeof bytes), DSP_NULL_POINTER);
     IS(dsp_engine_frames_left(NULL), 0);
+    IS(dsp_engine_clone(NULL, &none), DSP_NULL_POINTER);
+    IS(dsp_engine_clone(&none, NULL), DSP_NULL_POINTER);
     dsp_engine_free(NULL);
     dsp_engine_destroy(NULL);
 }
@@ -224,6 +230,27 @@ static void unheard(struct dsp_engine *engine) {
     IS(dsp_engine_close(engine, 0), 0);
 }
 
+/* A clone goes where no engine is. What one of both is asked then the other doesn't know. */
+static void clones(struct dsp_engine *engine) {
+    struct dsp_engine clone = DSP_NO_ENGINE, other = DSP_NO_ENGINE;
+    uint8_t bytes[4] = {0};
+
+    IS(dsp_engine_open(engine, 0, DSP_PLAY, DSP_S16_LE, 2, 48000), 0);
+    IS(dsp_engine_clone(engine, engine), DSP_NOT_AN_ENGINE);
+    IS(dsp_engine_clone(engine, &clone), 0);
+    IS(dsp_engine_clone(engine, &clone), DSP_NOT_AN_ENGINE);
+    IS(dsp_engine_clone(&other, &clone), DSP_NOT_AN_ENGINE);
+    IS(dsp_engine_frames_left(&clone), dsp_engine_frames_left(engine));
+    IS(dsp_engine_close(engine, 0), 0);
+    IS(dsp_engine_write(engine, 0, bytes, 4), DSP_BAD_DESCRIPTOR);
+    IS(dsp_engine_write(&clone, 0, bytes, 4), 4);
+    IS(dsp_engine_clone(&clone, &other), 0);
+    dsp_engine_free(&clone);
+    IS(dsp_engine_clone(&clone, engine), DSP_NOT_AN_ENGINE);
+    IS(dsp_engine_write(&other, 0, bytes, 4), 4);
+    dsp_engine_free(&other);
+}
+
 /* What answers mean, by the table of docs/SCRIPTS.md and, of those that no script has, by what they say. */
 static void meanings(void) {
     static const int numbers[] = {EAGAIN, EBUSY, EINVAL, EBADF, EEXIST, ENOMEM, EINVAL, EFAULT, ENXIO, ERANGE, EOVERFLOW};
@@ -271,6 +298,7 @@ int main(void) {
     recordings(&engine);
     mapped_channels(&engine);
     unheard(&engine);
+    clones(&engine);
     IS(dsp_engine_frames_left(&engine), 70368744177664 - 4 - 32);
     dsp_engine_free(&engine);
     IS(dsp_engine_close(&engine, 3), DSP_NOT_AN_ENGINE);

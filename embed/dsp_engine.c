@@ -58,6 +58,14 @@ void dsp_engine_destroy(struct dsp_engine *engine) {
     free(engine);
 }
 
+int32_t dsp_engine_clone(struct dsp_engine *engine, struct dsp_engine *clone) {
+    if (engine == NULL || clone == NULL) {
+        return DSP_NULL_POINTER;
+    }
+    /* in its own place no clone can be made: there is an engine already, or none to be cloned */
+    return engine == clone ? DSP_NOT_AN_ENGINE : dsp_raw_clone(engine, clone);
+}
+
 /* ---- calls of an engine ---- */
 
 int32_t dsp_engine_open(struct dsp_engine *engine, uint32_t fd, enum dsp_way way, uint32_t format, uint32_t channels, uint32_t rate) {

@@ -8,6 +8,7 @@
  *
  *   dsp_engine_new, dsp_engine_free            an engine in a struct of the caller's
  *   dsp_engine_create, dsp_engine_destroy      an engine in a struct of the library's
+ *   dsp_engine_clone                           an engine that goes on where another one is
  *   dsp_engine_open, dsp_engine_close          a client's descriptor
  *   dsp_engine_write, dsp_engine_poke          bytes to the device
  *   dsp_engine_read                            bytes from the device
@@ -27,8 +28,8 @@
  *   dsp_engine_version                         the library's version
  *
  * Each call of an engine answers a number: 0 or more where it was accepted, and one of the negative ones below where not. A call that
- * answers a negative number has changed nothing. No call but dsp_engine_new and dsp_engine_create takes memory, none waits, and none
- * keeps a pointer of the caller.
+ * answers a negative number has changed nothing. No call but dsp_engine_new, dsp_engine_create and dsp_engine_clone takes memory, none
+ * waits, and none keeps a pointer of the caller.
  *
  * One engine may be used by one thread at a time. Two engines have nothing in common.
  *
@@ -65,7 +66,7 @@ extern "C" {
 #define DSP_BAD_DESCRIPTOR (-4)
 /* The descriptor is open already. */
 #define DSP_EXISTS (-5)
-/* There is no memory. Only dsp_engine_new and dsp_engine_create answer it. */
+/* There is no memory. Only dsp_engine_new, dsp_engine_create and dsp_engine_clone answer it. */
 #define DSP_NO_MEMORY (-6)
 /* A number is outside its limits, or captured samples are more than the frames have, or end with a part of a frame. */
 #define DSP_WRONG_ARGUMENT (-7)
@@ -82,7 +83,7 @@ extern "C" {
 
 /*
  * An engine, or none. The caller has the struct and the library what it points to. It begins as DSP_NO_ENGINE, and may be moved, but not
- * be copied: of two copies one alone may be used again.
+ * be copied: of two copies one alone may be used again. dsp_engine_clone makes another engine.
  */
 struct dsp_engine {
     bool there;
@@ -281,6 +282,13 @@ int32_t dsp_engine_create(struct dsp_engine **engine, const struct dsp_device *d
 
 /* Frees an engine that dsp_engine_create made, and its struct. The pointer may be null. */
 void dsp_engine_destroy(struct dsp_engine *engine);
+
+/*
+ * Makes another engine that goes on where an engine is: calls of the one are answered as the same calls of the other, and hand over the same
+ * bytes, with as many frames left. The engine itself doesn't change, and either goes on and is freed without the other. *clone begins as
+ * DSP_NO_ENGINE: where there is an engine already, none is made. All memory of the clone is taken here. Answers 0, or why there is no clone.
+ */
+int32_t dsp_engine_clone(struct dsp_engine *engine, struct dsp_engine *clone);
 
 /* ---- calls of an engine ---- */
 

@@ -7,6 +7,8 @@
  * number is outside the limits of dsp_engine.h. And some sequences are run as scripts by the program, which replies and hands over the
  * same.
  *
+ * Now and then the first engine makes way for its clone, which goes on as it would.
+ *
  * Between the calls the first engine is asked questions. The other one is asked nothing then, or the same, or the same in other words: so
  * a question has changed nothing, and is answered what the calls are. A request is answered as its question was before, and a client can
  * go on after just as many frames as the question of its wait answered.
@@ -216,9 +218,24 @@ static void check_asked(struct run *run, const struct call *call) {
     run->asked = *call;
 }
 
+/* A clone goes on in the place of the first engine, where there is memory for it; and the other engine has none. */
+static void try_clone(struct run *run, const struct call *call) {
+    uint64_t left = dsp_engine_frames_left(run->first);
+    int64_t number = 0;
+
+    run->made += 1;
+    make_call(run->first, run->setup, call, &run->brought, &run->of_first);
+    number = run->of_first.number;
+    count_call(call, number);
+    check_room(run, call);
+    must(number == 0 || number == DSP_NO_MEMORY, run, call, "it has no clone");
+    must(dsp_engine_frames_left(run->first) == left, run, call, "the clone has other frames left");
+    run->asked = *call;
+}
+
 static void try_call(struct run *run, const struct call *call) {
-    if (call->kind == CALL_ASK) {
-        try_question(run, call);
+    if (call->kind == CALL_ASK || call->kind == CALL_CLONE) {
+        (call->kind == CALL_ASK ? try_question : try_clone)(run, call);
         return;
     }
     run->made += 1;

@@ -8,7 +8,7 @@
 
 #include "dsp_engine.h"
 
-enum { POOL = 4 << 20, HEAD = 16 };
+enum { POOL = 8 << 20, HEAD = 16 };
 
 /* A block is its size in a head of 16 bytes, and after that its bytes: the pool's next ones. Nothing is taken back into the pool. */
 static union {
@@ -66,31 +66,46 @@ static bool asks_for_nothing(struct dsp_engine *engine) {
     return is_right && requests == before && blocks == there;
 }
 
-/* Makes an engine in the empty pool, uses and frees it. Answers what its making was answered, or 1 where something else was wrong. */
-static int32_t try_engine(long refuse) {
+/* What an engine took, and its clone. */
+struct taken {
+    long requests;
+    size_t bytes;
+};
+
+static struct taken of_engine, of_both;
+
+/*
+ * Makes an engine in the empty pool and clones it, uses and frees both. Answers what the making or the cloning was answered, or 1 where
+ * something else was wrong: an engine of which no clone could be made goes on.
+ */
+static int32_t try_both(long refuse) {
     static const struct dsp_device device = DSP_DEVICE_DEFAULT;
-    struct dsp_engine *engine = NULL;
+    struct dsp_engine *engine = NULL, clone = DSP_NO_ENGINE;
+    bool is_right;
     int32_t answer;
     used = 0;
     requests = 0;
     refused = refuse;
     answer = dsp_engine_create(&engine, &device, NULL, 0, NULL, 0, NULL, 0);
-    if (answer == 0 && !asks_for_nothing(engine)) {
-        answer = 1;
-    }
+    of_engine = (struct taken){requests, used};
+    answer = answer != 0 ? answer : dsp_engine_clone(engine, &clone);
+    of_both = (struct taken){requests, used};
+    is_right = engine == NULL || asks_for_nothing(engine);
     dsp_engine_destroy(engine);
-    return blocks == 0 ? answer : 1;
+    is_right = is_right && (answer != 0 || asks_for_nothing(&clone));
+    dsp_engine_free(&clone);
+    return is_right && blocks == 0 ? answer : 1;
 }
 
 int main(void) {
-    bool is_right = try_engine(-1) == 0;
-    long count = requests;
-    size_t whole = used;
+    bool is_right = try_both(-1) == 0;
+    struct taken engine = of_engine, both = of_both;
 
-    for (long each = 0; each < count; each += 1) {
-        is_right = try_engine(each) == DSP_NO_MEMORY && is_right;
+    for (long each = 0; each < both.requests; each += 1) {
+        is_right = try_both(each) == DSP_NO_MEMORY && is_right;
     }
-    printf("an engine asks the program %ld times for %lu KiB; %s\n", count, (unsigned long)(whole / 1024),
-           is_right ? "refused once each, it gives back all that it had" : "something is wrong");
-    return is_right && count > 0 ? 0 : 1;
+    printf("an engine asks the program %ld times for %lu KiB, and its clone %ld times for %lu KiB; %s\n", engine.requests,
+           (unsigned long)(engine.bytes / 1024), both.requests - engine.requests, (unsigned long)((both.bytes - engine.bytes) / 1024),
+           is_right ? "refused once each, they give back all that they had" : "something is wrong");
+    return is_right && engine.requests > 0 && both.requests > engine.requests ? 0 : 1;
 }

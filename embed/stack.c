@@ -16,6 +16,8 @@ static union {
     unsigned char bytes[STACK];
 } stack;
 
+static bool is_cloned = false;
+
 /* What is measured: a call, and the engine that it is of. */
 struct measured {
     void (*call)(struct dsp_engine *engine);
@@ -63,6 +65,13 @@ static void interrupt_and_read(struct dsp_engine *engine) {
     dsp_engine_close(engine, 0);
 }
 
+/* Its clone, which is freed at once. */
+static void clone_and_free(struct dsp_engine *engine) {
+    struct dsp_engine clone = DSP_NO_ENGINE;
+    is_cloned = dsp_engine_clone(engine, &clone) == 0;
+    dsp_engine_free(&clone);
+}
+
 /* Paints what lies below this function's own frame, makes the call, and looks how far down it came. */
 static void *measure(void *asked) {
     struct measured *it = asked;
@@ -94,9 +103,10 @@ int main(void) {
     bool is_made = engine.there;
     size_t of_writes = stack_of(open_and_write, &engine);
     size_t of_interrupts = stack_of(interrupt_and_read, &engine);
+    size_t of_clone = stack_of(clone_and_free, &engine);
     size_t of_free = stack_of(dsp_engine_free, &engine);
 
-    printf("bytes of stack: dsp_engine_new %lu, openings and writes %lu, interrupts and reads %lu, dsp_engine_free %lu\n",
-           (unsigned long)of_new, (unsigned long)of_writes, (unsigned long)of_interrupts, (unsigned long)of_free);
-    return is_made && of_new <= MOST && of_writes <= MOST && of_interrupts <= MOST && of_free <= MOST ? 0 : 1;
+    printf("bytes of stack: dsp_engine_new %lu, openings and writes %lu, interrupts and reads %lu, dsp_engine_clone %lu, dsp_engine_free %lu\n",
+           (unsigned long)of_new, (unsigned long)of_writes, (unsigned long)of_interrupts, (unsigned long)of_clone, (unsigned long)of_free);
+    return is_made && is_cloned && of_new <= MOST && of_writes <= MOST && of_interrupts <= MOST && of_clone <= MOST && of_free <= MOST ? 0 : 1;
 }

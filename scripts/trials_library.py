@@ -141,7 +141,7 @@ def tests_of_python(_):
 
 
 # the tests in C, with what is compiled beside each
-IN_C = (("answers.c",), ("questions.c",), ("oss.c", "dsp_oss.c"), ("filters.c", "dsp_filter.c"))
+IN_C = (("answers.c",), ("questions.c",), ("clones.c",), ("oss.c", "dsp_oss.c"), ("filters.c", "dsp_filter.c"))
 
 
 def answers_right(room):

@@ -7,6 +7,7 @@
 
 #include "call.h"
 
+int32_t __real_dsp_engine_clone(struct dsp_engine *engine, struct dsp_engine *clone);
 int32_t __real_dsp_engine_open(struct dsp_engine *engine, uint32_t fd, enum dsp_way way, uint32_t format, uint32_t channels, uint32_t rate);
 int32_t __real_dsp_engine_write(struct dsp_engine *engine, uint32_t fd, const void *bytes, size_t length);
 int32_t __real_dsp_engine_poke(struct dsp_engine *engine, uint32_t fd, uint32_t offset, const void *bytes, size_t length);
@@ -26,6 +27,14 @@ uint64_t __real_dsp_engine_frames_left(struct dsp_engine *engine);
 static bool has(const char *fault) {
     const char *named = getenv("FUZZ_CALLS_FAULT");
     return named != NULL && strcmp(named, fault) == 0;
+}
+
+int32_t __wrap_dsp_engine_clone(struct dsp_engine *engine, struct dsp_engine *clone) {
+    int32_t number = __real_dsp_engine_clone(engine, clone);
+    if (number == 0 && has("a-clone-lacks-a-descriptor")) {
+        __real_dsp_engine_close(clone, 0);
+    }
+    return number;
 }
 
 int32_t __wrap_dsp_engine_open(struct dsp_engine *engine, uint32_t fd, enum dsp_way way, uint32_t format, uint32_t channels, uint32_t rate) {

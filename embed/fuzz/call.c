@@ -268,7 +268,7 @@ static void take_numbers(struct calls *calls, struct call *call) {
 
 /* Whether a call's first number is a descriptor. */
 static bool has_descriptor(enum call_kind kind) {
-    return kind != CALL_MIXER && kind != CALL_INTERRUPT && kind != CALL_NEW;
+    return kind != CALL_MIXER && kind != CALL_INTERRUPT && kind != CALL_NEW && kind != CALL_CLONE;
 }
 
 static void take_call(struct calls *calls, struct call *call) {
@@ -278,6 +278,7 @@ static void take_call(struct calls *calls, struct call *call) {
         CALL_IOCTL, CALL_IOCTL, CALL_IOCTL, CALL_IOCTL, CALL_JOIN,  CALL_START, CALL_CLOSE,     CALL_MIXER,     CALL_MIXER,
         CALL_JOIN,  CALL_START, CALL_NEW,   CALL_INTERRUPT, CALL_INTERRUPT, CALL_INTERRUPT, CALL_INTERRUPT, CALL_INTERRUPT, CALL_INTERRUPT,
         CALL_ASK,   CALL_ASK,   CALL_ASK,   CALL_ASK,   CALL_ASK,   CALL_ASK,   CALL_ASK,       CALL_ASK,       CALL_ASK,
+        CALL_CLONE,
     };
     call->kind = (enum call_kind)take_one_of(&calls->input, kinds, COUNT_OF(kinds));
     if (has_descriptor(call->kind)) {

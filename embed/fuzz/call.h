@@ -16,6 +16,7 @@ enum call_kind {
     CALL_MIXER,
     CALL_INTERRUPT,
     CALL_NEW, /* of an engine that is there */
+    CALL_CLONE, /* of the engine, which makes way for its clone */
     CALL_ASK, /* a question */
     CALL_KINDS
 };

@@ -116,6 +116,8 @@ bool call_is_right(const struct call *call, const struct dsp_device *device) {
         return question_is_right(call, device);
     case CALL_NEW:
         return false;
+    case CALL_CLONE:
+        return true;
     case CALL_INTERRUPT:
         return interrupt_is_right(call, device);
     case CALL_MIXER:

@@ -71,6 +71,17 @@ bool is_report_marked(const struct got *got, size_t from) {
     return true;
 }
 
+/* Puts a clone of an engine into its place, and frees the engine. */
+static int32_t make_way(struct dsp_engine *engine) {
+    struct dsp_engine clone = DSP_NO_ENGINE;
+    int32_t number = dsp_engine_clone(engine, &clone);
+    if (number == 0) {
+        dsp_engine_free(engine);
+        *engine = clone;
+    }
+    return number;
+}
+
 static int64_t number_of(struct dsp_engine *engine, const struct setup *setup, const struct call *call, const struct brought *brought,
                          struct got *got) {
     const uint32_t *numbers = call->numbers;
@@ -101,6 +112,8 @@ static int64_t number_of(struct dsp_engine *engine, const struct setup *setup, c
         return dsp_engine_interrupt(engine, numbers[FRAMES], brought->samples, call->length, out, call->room);
     case CALL_ASK:
         return ask_question(engine, call, &got->report, &got->answer);
+    case CALL_CLONE:
+        return make_way(engine);
     default:
         return make_engine(engine, setup);
     }

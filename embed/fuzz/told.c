@@ -46,6 +46,15 @@ static const char head[] =
     "    }\n"
     "    return samples;\n"
     "}\n\n"
+    "static int32_t make_way(struct dsp_engine *engine) {\n"
+    "    struct dsp_engine clone = DSP_NO_ENGINE;\n"
+    "    int32_t number = dsp_engine_clone(engine, &clone);\n"
+    "    if (number == 0) {\n"
+    "        dsp_engine_free(engine);\n"
+    "        *engine = clone;\n"
+    "    }\n"
+    "    return number;\n"
+    "}\n\n"
     "static void told(int64_t number) {\n"
     "    printf(\"%lld: %llu %llu %llu %llu\\n\", (long long)number, (unsigned long long)answer.first, (unsigned long long)answer.second,\n"
     "           (unsigned long long)answer.third, (unsigned long long)answer.fourth);\n"
@@ -201,6 +210,9 @@ void tell_call(FILE *to, const struct call *call) {
         break;
     case CALL_ASK:
         tell_question(to, call);
+        break;
+    case CALL_CLONE:
+        fputs("make_way(&engine)", to);
         break;
     case CALL_NEW:
         fputs("dsp_engine_new(&engine, &device, NULL, 0, NULL, 0, NULL, 0)", to);

@@ -321,6 +321,19 @@ class Refusals(unittest.TestCase):
         with self.assertRaises(TypeError):
             copy.deepcopy(self.engine)
 
+    def test_a_clone_goes_on_where_its_engine_is(self) -> None:
+        self.engine.open(0, Way.PLAY, Format.S16_LE, 2, 48000)
+        self.engine.write(0, bytes([7]) * 64)
+        self.engine.post(0)
+        self.engine.discard(16)
+        with self.engine.clone() as clone:
+            self.engine.close(0)
+            self.assertEqual((clone.device, clone.frames_left), (self.engine.device, self.engine.frames_left))
+            self.engine.free()
+            self.assertEqual(clone.interrupt(16), bytes([7]) * 64)
+            self.assertEqual(clone.errors(0), Errors(1, 0))
+            self.refuses(Refusal.NOT_AN_ENGINE, "clone")
+
     def test_engines_are_freed_with_their_names(self) -> None:
         for _ in range(100):
             Engine()

@@ -2,3 +2,4 @@
 pub mod Readiness
 pub mod Slots
 pub mod Asking
+pub mod Cloning

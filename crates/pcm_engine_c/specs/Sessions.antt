@@ -16,6 +16,7 @@ use Rattle.pcm_foreign.specs.Answers.{call_fault_number, fault_number}
 use Rattle.pcm_foreign.specs.Devices.{device_from}
 use Rattle.pcm_foreign.specs.Tables.{tables_from}
 use Rattle.pcm_engine_c.specs.declared.session.Session.{Session}
+use Rattle.pcm_engine_c.specs.Calls.{OnHeld}
 
 -- An engine is that of these numbers before its first step: of their device, with their filters and sections, and it stands for no events.
 pub record IsNew {B : Type 0} (kept : B → Kept) (device : DeviceNumbers) (filters : List FilterNumbers) (coefs : List ℤ) (sections : List SectionNumbers) (engine : EngineOf B) : Type 0 where
@@ -39,3 +40,12 @@ pub record IsMade {B : Type 0} (engine_in : Session → EngineOf B) (kept : B �
   pub none : old ≡ None → result ≢ pos 0 → new ≡ None
   pub cause : old ≡ None → result ≡ fault_number Argument → is_possible device filters coefs sections ≡ false
   pub memory : old ≡ None → result ≢ pos 0 → result ≢ fault_number Argument → (result ≡ fault_number Memory) × (is_possible device filters coefs sections ≡ true)
+
+-- The result of cloning an engine. Without one, or where there is one already in the place of the clone, nothing is made, and the number says
+-- so. Else 0 says that there is a clone now; and that of want of memory, the only other, that there is none.
+pub record IsCloned (is_clone_of : Session → Session → Type 0) (engine old new : Option Session) (result : ℤ) : Type 0 where
+  pub none : engine ≡ None → result ≡ call_fault_number Engine
+  pub there : IsSome old → result ≡ call_fault_number Engine
+  pub made : result ≡ pos 0 → OnHeld engine new is_clone_of
+  pub unmade : result ≢ pos 0 → new ≡ old
+  pub memory : IsSome engine → old ≡ None → result ≢ pos 0 → result ≡ fault_number Memory

@@ -2,11 +2,12 @@
 //! Numbers, lengths and references come from C; that these are what C says they are is trusted.
 #![tactic(auto)]
 
-ghost use Rattle.std.specs.Prelude.{◌≡◌, IfSome, None, [], length, drop, true, pos, if◌then◌else◌};
+ghost use Rattle.std.specs.Prelude.{◌≡◌, IfSome, IsSome, None, [], length, drop, true, pos, if◌then◌else◌};
+ghost use Rattle.pcm_engine.specs.Clones.{IsCloneOf};
 ghost use Rattle.pcm_engine.specs.Engines.{desk_of, device_of};
 ghost use Rattle.pcm_engine.specs.Views.{is_idle};
 ghost use Rattle.pcm_engine_c.specs.Calls.{On};
-ghost use Rattle.pcm_engine_c.specs.Sessions.{IsMade, is_possible};
+ghost use Rattle.pcm_engine_c.specs.Sessions.{IsCloned, IsMade, is_possible};
 ghost use Rattle.pcm_foreign.specs.Answers.{call_fault_number, fault_number};
 ghost use Rattle.pcm_foreign.specs.declared.call_fault.CallFault.TheVariants.{Engine};
 ghost use Rattle.pcm_foreign.specs.declared.fault.NumbersFault.TheVariants.{Memory};
@@ -23,10 +24,11 @@ use feed_stages::Stage;
 use handle::Handle;
 use pcm_feeder::Feeder;
 use pcm_foreign::{
-    AnswerNumbers, DeviceNumbers, FilterNumbers, NOT_AN_ENGINE, SectionNumbers, fault_number,
+    AnswerNumbers, DeviceNumbers, FilterNumbers, NOT_AN_ENGINE, NumbersFault, SectionNumbers,
+    fault_number,
 };
 use pcm_session::{SettingsNumbers, SlotNumbers};
-use session::session_from;
+use session::{session_clone, session_from};
 use std::alloc::Global;
 
 /// Makes the engine of a device, with filters and sections. Where there is one, none is made.
@@ -54,6 +56,30 @@ pub extern "C" fn dsp_raw_new(
         }
         Err(fault) => fault_number(fault),
     }
+}
+
+/// Makes the clone of an engine in an empty handle: it goes on where that engine is. Where there is one already, none is made.
+#[unsafe(no_mangle)]
+pub extern "C" fn dsp_raw_clone(alloc: Global, engine: &mut Handle, clone: &mut Handle) -> i32
+    ensures stays { engine.new.slot.session ≡ engine.old.slot.session }
+    ensures made { IsCloned (λ session made. IsCloneOf ⟦<Stage as Feeder>⟧.kind ⟦<Stage as Feeder>⟧.kept session.of.engine made.of.engine)
+        engine.old.slot.session clone.old.slot.session clone.new.slot.session result }
+    ensures memory { result ≡ fault_number Memory
+        → IsSome engine.old.slot.session × (clone.old.slot.session ≡ None) }
+{
+    if clone.is_there() {
+        return NOT_AN_ENGINE;
+    }
+    let Some(session) = engine.take(alloc) else {
+        return NOT_AN_ENGINE;
+    };
+    let made = session_clone(alloc, &session);
+    engine.put(session);
+    let Ok(made) = made else {
+        return fault_number(NumbersFault::Memory);
+    };
+    clone.put(made);
+    0
 }
 
 /// Frees an engine, if there is one.

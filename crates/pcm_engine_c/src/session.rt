@@ -1,6 +1,7 @@
 //! The session that C holds, out of numbers.
 
 ghost use Rattle.std.specs.Prelude.{◌≡◌, true, false, IfOk, IfErr};
+ghost use Rattle.pcm_engine.specs.Clones.{IsCloneOf};
 ghost use Rattle.pcm_engine.specs.Engines.{AreReady};
 ghost use Rattle.pcm_engine_c.specs.Sessions.{IsNew, is_possible};
 ghost use Rattle.pcm_foreign.specs.declared.fault.NumbersFault.TheVariants.{Argument, Memory};
@@ -48,6 +49,21 @@ pub fn session_from(
         return Err(NumbersFault::Memory);
     };
     let session = SessionOf::new(alloc, device, tables, racks)?;
+    let session = boxed(alloc, session)?;
+    Ok(session)
+}
+
+/// The session whose engine goes on where that of another session is. All memory is taken here.
+pub fn session_clone(alloc: Global, session: &Session) -> Result<Box<Session>, AllocError>
+    requires { AreReady
+        ⟦<Stage as Feeder>⟧.kind ⟦<Stage as Feeder>⟧.kept session.now.of.engine }
+    ensures { IfOk result (λ made. IsCloneOf
+        ⟦<Stage as Feeder>⟧.kind ⟦<Stage as Feeder>⟧.kept session.now.of.engine made.value.of.engine) }
+{
+    let Ok(racks) = stage_racks(alloc) else {
+        return Err(AllocError);
+    };
+    let session = session.of.try_clone(alloc, racks)?;
     let session = boxed(alloc, session)?;
     Ok(session)
 }

@@ -1,5 +1,6 @@
 pub mod Taken
 pub mod Steps
+pub mod Beginnings
 pub mod Runs
 pub mod Events
 pub mod Calls

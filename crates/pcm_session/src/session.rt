@@ -1,12 +1,14 @@
 //! The session, and its calls.
 
-ghost use Rattle.std.specs.Prelude.{◌≡◌, ◌≤◌, true, false, IfErr, IfOk, IsErr, IsOk, Ok, OnErr, [], length, take, drop};
+ghost use Rattle.std.specs.Prelude.{◌≡◌, ◌≤◌, true, false, IfErr, IfOk, IsErr, IsOk, OnErr, [], length, take, drop};
 ghost use Rattle.pcm_desk.specs.Device.{seen, IsInLimits};
 ghost use Rattle.pcm_desk.specs.Events.{bytes_handed};
+ghost use Rattle.pcm_engine.specs.Clones.{IsCloneOf};
 ghost use Rattle.pcm_engine.specs.declared.limits.TheConstants.{LIFE};
 ghost use Rattle.pcm_engine.specs.Engines.{device_of, AreReady, Stands};
 ghost use Rattle.pcm_feeder.specs.Racks.{AreRacks, list_of};
 ghost use Rattle.pcm_sequence.specs.Fixed.{fixed_items, fixed_len};
+ghost use Rattle.pcm_session.specs.Beginnings.{CanBeCloned, first_reply};
 ghost use Rattle.pcm_session.specs.Steps.{IsCallStep};
 ghost use Rattle.pcm_session.specs.Taken.{fault_of, frames_left, has_right, is_left, is_taken, unheard_room};
 ghost use Rattle.pcm_wave.specs.declared.pool.Pool.{Pool};
@@ -45,11 +47,34 @@ impl<B: Feeder> SessionOf<B> {
         ensures handed { IfOk result (λ session. session.engine.parent.handed ≡ 0) }
         ensures ready { IfOk result (λ session. AreReady B.kind B.kept session.engine) }
         ensures stands { IfOk result (λ session. (pool : Pool) → Stands B.kept session.engine pool []) }
-        ensures reply { IfOk result (λ session. session.reply ≡ record { result = Ok Answer.Done; bytes = [] }) }
+        ensures reply { IfOk result (λ session. session.reply ≡ first_reply) }
     {
         let engine = EngineOf::new(alloc, device, tables, racks)?;
-        let reply = ReplyBuf::new(alloc)?;
+        let session = SessionOf::of(alloc, engine)?;
+        Ok(session)
+    }
+
+    /// A session before its first call, whose engine goes on where that of this one is: whatever events this engine stands for, that one does
+    /// too. Its channels pick their stages from the racks. Nothing of this session changes. All memory is taken here; after a refusal the racks
+    /// are dropped.
+    pub fn try_clone(&self, alloc: Global, racks: RacksOf<B>) -> Result<SessionOf<B>, AllocError>
+        requires { CanBeCloned B.kind B.kept self.now.engine racks }
+        ensures clone { IfOk result (λ session. IsCloneOf B.kind B.kept self.now.engine session.engine) }
+        ensures reply { IfOk result (λ session. session.reply ≡ first_reply) }
+    {
+        let engine = self.engine.try_clone(alloc, racks)?;
+        let session = SessionOf::of(alloc, engine)?;
+        Ok(session)
+    }
+
+    // The session of an engine, before its first call.
+    fn of(alloc: Global, engine: EngineOf<B>) -> Result<SessionOf<B>, AllocError>
+        requires { IsInLimits (device_of engine) }
+        ensures { IfOk result (λ session. (session.engine ≡ engine) × (session.reply ≡ first_reply)) }
+    {
+        let device = engine.device();
         let room = device.ring_frames as usize * device.settings.frame_bytes();
+        let reply = ReplyBuf::new(alloc)?;
         let unheard = Fixed::new(vec![in alloc; 0u8; room]?);
         Ok(SessionOf {
             engine,

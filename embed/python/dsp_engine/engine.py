@@ -4,7 +4,7 @@ import threading
 from types import TracebackType
 from typing import Any, Iterable, List, Optional, Sequence, Tuple, Type, Union
 
-from .library import AnswerStruct, FilterStruct, Handle, SectionStruct, SettingsStruct, SlotStruct, accepted, library
+from .library import AnswerStruct, EngineStruct, FilterStruct, SectionStruct, SettingsStruct, SlotStruct, accepted, library
 from .numbers import (
     Answer,
     Device,
@@ -43,14 +43,10 @@ class Engine:
     def __init__(self, device: Device = Device(), filters: Sequence[Filter] = (), sections: Sequence[Section] = ()) -> None:
         structs, coefs = filter_structs(filters)
         parts = [section_struct(section) for section in sections]
-        self._handle = Handle()
-        self._lock = threading.Lock()
-        self._device = device
-        self._library = library()
-        self._frame_bytes = Format(device.format).sample_bytes * device.channels
+        self._begin(device)
         accepted(
-            self._library.dsp_engine_create(
-                ctypes.byref(self._handle),
+            self._library.dsp_engine_new(
+                self._handle,
                 device_struct(device),
                 (FilterStruct * len(structs))(*structs),
                 len(structs),
@@ -60,6 +56,14 @@ class Engine:
                 len(parts),
             )
         )
+
+    def _begin(self, device: Device) -> None:
+        """No engine is there yet."""
+        self._handle = EngineStruct()
+        self._lock = threading.Lock()
+        self._device = device
+        self._library = library()
+        self._frame_bytes = Format(device.format).sample_bytes * device.channels
 
     def __enter__(self) -> "Engine":
         return self
@@ -72,13 +76,19 @@ class Engine:
             self.free()
 
     def __reduce__(self) -> Any:
-        raise TypeError("an engine has no copy")
+        raise TypeError("an engine has no copy: see clone")
+
+    def clone(self) -> "Engine":
+        """An engine that goes on where this one is, and answers the same calls alike."""
+        other = Engine.__new__(Engine)
+        other._begin(self._device)
+        self._call("clone", other._handle)
+        return other
 
     def free(self) -> None:
         """Frees the engine. Whatever is called then is refused."""
         with self._lock:
-            self._library.dsp_engine_destroy(self._handle)
-            self._handle = Handle()
+            self._library.dsp_engine_free(self._handle)
 
     def _call(self, name: str, *arguments: Any) -> int:
         """Makes a call. Answers its number, if it was accepted."""

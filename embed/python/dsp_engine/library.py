@@ -12,9 +12,17 @@ VARIABLE = "DSP_ENGINE_LIBRARY"
 NAMES = ("libdsp_engine.so.2", "libdsp_engine.so", "libdsp_engine.dylib")
 MAJOR, MINOR = 2, 0  # the version of the library that this package needs: a later minor one fits, too
 
-Handle = ctypes.c_void_p
 U32 = ctypes.c_uint32
 SIZE = ctypes.c_size_t
+
+
+class EngineStruct(ctypes.Structure):
+    """struct dsp_engine: all of it 0 is none"""
+
+    _fields_ = [("there", ctypes.c_bool), ("at", ctypes.c_void_p)]
+
+
+Handle = ctypes.POINTER(EngineStruct)
 
 
 class DeviceStruct(ctypes.Structure):
@@ -61,8 +69,8 @@ class SlotStruct(ctypes.Structure):
 
 # what each function takes; all answer a number of 32 bits but those of RESULTS
 PARAMETERS = {
-    "create": [
-        ctypes.POINTER(Handle),
+    "new": [
+        Handle,
         ctypes.POINTER(DeviceStruct),
         ctypes.POINTER(FilterStruct),
         SIZE,
@@ -71,7 +79,8 @@ PARAMETERS = {
         ctypes.POINTER(SectionStruct),
         SIZE,
     ],
-    "destroy": [Handle],
+    "free": [Handle],
+    "clone": [Handle, Handle],
     "open": [Handle, U32, U32, U32, U32, U32],
     "write": [Handle, U32, ctypes.c_char_p, SIZE],
     "poke": [Handle, U32, U32, ctypes.c_char_p, SIZE],
@@ -93,7 +102,7 @@ PARAMETERS = {
     "error": [ctypes.c_int32],
     "errno": [ctypes.c_int32],
 }
-RESULTS = {"destroy": None, "frames_left": ctypes.c_uint64, "frames_until": ctypes.c_int64, "version": U32, "error": ctypes.c_char_p}
+RESULTS = {"free": None, "frames_left": ctypes.c_uint64, "frames_until": ctypes.c_int64, "version": U32, "error": ctypes.c_char_p}
 
 
 def places() -> Iterator[str]:

@@ -23,7 +23,7 @@ impl Engine {
             return Err(Refusal::WrongArgument);
         }
         let (filters, coefs) = numbers_of(filters);
-        let mut handle = raw::Handle { there: false, at: std::ptr::null_mut() };
+        let mut handle = raw::NO_ENGINE;
         // SAFETY: each pointer has as many elements as are given, and the handle is none.
         accepted(unsafe {
             raw::dsp_engine_new(
@@ -37,6 +37,14 @@ impl Engine {
                 sections.len(),
             )
         })?;
+        Ok(Engine { handle })
+    }
+
+    /// An engine that goes on where this one is, and answers the same calls alike. All its memory is taken here.
+    pub fn try_clone(&mut self) -> Result<Engine, Refusal> {
+        let mut handle = raw::NO_ENGINE;
+        // SAFETY: as in all calls below, the engine's handle is lent to nobody else. That of the clone is none.
+        accepted(unsafe { raw::dsp_engine_clone(&mut self.handle, &mut handle) })?;
         Ok(Engine { handle })
     }
 

@@ -11,6 +11,9 @@ pub struct Handle {
     pub at: *mut c_void,
 }
 
+/// DSP_NO_ENGINE
+pub const NO_ENGINE: Handle = Handle { there: false, at: std::ptr::null_mut() };
+
 /// struct dsp_filter
 #[repr(C)]
 pub struct FilterNumbers {
@@ -59,6 +62,7 @@ extern "C" {
         section_count: usize,
     ) -> i32;
     pub fn dsp_engine_free(engine: &mut Handle);
+    pub fn dsp_engine_clone(engine: &mut Handle, clone: &mut Handle) -> i32;
     pub fn dsp_engine_open(engine: &mut Handle, fd: u32, way: u32, format: u32, channels: u32, rate: u32) -> i32;
     pub fn dsp_engine_write(engine: &mut Handle, fd: u32, bytes: *const u8, length: usize) -> i32;
     pub fn dsp_engine_poke(engine: &mut Handle, fd: u32, offset: u32, bytes: *const u8, length: usize) -> i32;

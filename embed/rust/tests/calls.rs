@@ -156,6 +156,21 @@ fn what_nobody_hears_is_let_go() {
 }
 
 #[test]
+fn a_clone_goes_on_where_its_engine_is() {
+    let mut engine = engine();
+    let mut out = [0; 64];
+    engine.open(0, Way::Play, Format::S16Le, 2, 48000).unwrap();
+    engine.write(0, &[7; 64]).unwrap();
+    engine.post(0).unwrap();
+    engine.discard(16, &[]).unwrap();
+    let mut clone = engine.try_clone().unwrap();
+    assert_eq!((engine.close(0), clone.frames_left()), (Ok(()), engine.frames_left()));
+    drop(engine);
+    assert_eq!(clone.interrupt(16, &[], &mut out).map(|it| it.to_vec()), Ok(vec![7; 64]));
+    assert_eq!(clone.errors(0), Ok(Errors { underruns: 1, overruns: 0 }));
+}
+
+#[test]
 fn questions_change_nothing() {
     let mut engine = Engine::new(&Device { map_slots: 1, ..Device::default() }, &[], &[]).unwrap();
     engine.open(2, Way::Play, Format::S16Le, 2, 48000).unwrap();
