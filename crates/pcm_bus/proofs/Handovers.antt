@@ -25,7 +25,8 @@ use Rattle.pcm_chain.specs.Chains.{plan_in}
 use Rattle.pcm_chain.specs.Gives.{AreJustEnough, CanGive, GivesExactly, GivesOn, filling_frames}
 use Rattle.pcm_chain.specs.Pushes.{pushed_frames}
 use Rattle.pcm_chain.proofs.Level.{passed-by}
-use Rattle.pcm_chain.proofs.Pushing.{count-frames, frames_of-bits, interleaved-bits}
+use Rattle.pcm_chain.proofs.Bits.{frames_of-bits, interleaved-bits}
+use Rattle.pcm_chain.proofs.Pushing.{count-frames}
 use Rattle.pcm_desk.specs.Channels.{mixed_by}
 use Rattle.pcm_desk.specs.Device.{DeviceSeen, IsDevice, device_settings, device_filters, is_straight, mix_settings, parent_plan}
 use Rattle.pcm_desk.proofs.Ratios.{mixed-behind, parent-bits}

@@ -1,8 +1,9 @@
 -- The bits of the samples that come out of stages.
-use Rattle.std.proofs.Common.{◌≡◌, ◌≤◌, ◌<◌, ◌==◌, ℕ, ℤ, List, [], ◌∷◌, ◌++◌, length, map, take, drop, get_or, All, refl, sym, ap, ◌∙◌, arith}
+use Rattle.std.proofs.Common.{◌≡◌, ◌≤◌, ◌<◌, ◌*◌, ◌/◌, ◌==◌, ℕ, ℤ, List, [], ◌∷◌, ◌++◌, length, map, take, drop, get_or, Option, None, Some, All, refl, sym, ap, ◌∙◌, arith}
+use Rattle.std.specs.List.{range_with_len}
 use Rattle.std.proofs.lemmas.Bool.{cond_both, eqb-true}
-use Rattle.std.proofs.lemmas.List.{drop_at, length-append, take_at}
-use Rattle.std.proofs.lemmas.List.Elements.{All-nil, All-cons, All-drop, All-map, All-same, All-take}
+use Rattle.std.proofs.lemmas.List.{append-nil, drop_at, length-append, take_at}
+use Rattle.std.proofs.lemmas.List.Elements.{All-nil, All-cons, All-head, All-tail, All-append, All-drop, All-map, All-same, All-take}
 use Rattle.pcm_num.specs.Limit.{FitsBits}
 use Rattle.pcm_num.proofs.Limits.{FitsBits-floor_div}
 use Rattle.pcm_format.specs.declared.settings.Settings.{Settings}
@@ -21,9 +22,22 @@ use Rattle.pcm_feeder.specs.Streams.{frames_of, interleaved, written}
 use Rattle.pcm_feeder.specs.Turns.{fed, turn_of}
 use Rattle.pcm_feeder.proofs.Turns.{fed-fitted, turn-fitted}
 use Rattle.pcm_plan.specs.Fits.{HaveBits}
-use Rattle.pcm_plan.specs.Plans.{converting, depth_stages, equaliser_stages, plan_play}
+use Rattle.pcm_plan.specs.Plans.{converter_of, converting, depth_stages, equaliser_stages, filter_for, filter_or_line, plan_play, plan_record}
+use Rattle.pcm_plan.proofs.Fits.{each-converting}
 use Rattle.pcm_chain.specs.Bits.{bits_after, bits_left}
-use Rattle.pcm_chain.proofs.Pushing.{frames_of-bits}
+
+-- frames of `bits` bits are samples of as many
+pub interleaved-bits : (bits : ℕ) (list : List Frame) → HaveBits bits list → All (FitsBits bits) (interleaved list)
+interleaved-bits bits [] have = All-nil (FitsBits bits)
+interleaved-bits bits (frame ∷ list) have =
+    let P : Frame → Type 0 = λ (f : Frame). All (FitsBits bits) f in
+    All-append (FitsBits bits) frame (interleaved list) (All-head P frame list have) (interleaved-bits bits list (All-tail P frame list have))
+
+-- and the other way round
+pub frames_of-bits : (bits c : ℕ) (samples : List ℤ) → All (FitsBits bits) samples → HaveBits bits (frames_of c samples)
+frames_of-bits bits c samples have =
+    All-map (λ (frame : Frame). All (FitsBits bits) frame) (λ k. take c (drop (k * c) samples)) (range_with_len 0 (length samples / c))
+    (λ i d below. All-take (FitsBits bits) c (drop (get_or (range_with_len 0 (length samples / c)) i d * c) samples) (All-drop (FitsBits bits) (get_or (range_with_len 0 (length samples / c)) i d * c) samples have))
 
 -- frames are of as many bits as their samples
 interleaved-have : (bits : ℕ) (list : List Frame) → All (FitsBits bits) (interleaved list) → HaveBits bits list
@@ -86,3 +100,33 @@ bits-played tables quality client device =
     ∙ cond_both (bits_of device.format == 32) [] (Depth (bits_of device.format) channels ∷ []) (λ specs. bits_left (Volume device.layout ∷ specs) ≡ bits_of device.format)
     (λ whole. sym (eqb-true (bits_of device.format) 32 whole))
     (λ fewer. refl)
+
+-- ---- plans to a client that records
+
+-- stages that all leave 32 bits leave 32
+wide-left : (specs : List Spec) → All (λ spec. bits_after spec ≡ 32) specs → bits_left specs ≡ 32
+wide-left [] wide = refl
+wide-left (spec ∷ []) wide = All-head (λ s. bits_after s ≡ 32) spec [] wide
+wide-left (spec ∷ next ∷ specs) wide = wide-left (next ∷ specs) (All-tail (λ s. bits_after s ≡ 32) spec (next ∷ specs) wide)
+
+-- and so does a change of rate
+converter-wide : (tables : Filters) (quality src dst channels : ℕ) → bits_after (converter_of tables quality src dst channels) ≡ 32
+converter-wide tables quality src dst channels =
+    let Wide : Spec → Type 0 = λ spec. bits_after spec ≡ 32 in
+    cond_both (quality == 0) (Hold src dst channels) _ Wide (λ hold. refl)
+    (λ other. cond_both (quality == 1) (Linear src dst channels) _ Wide (λ line. refl) (λ more. filter-wide (filter_for tables src dst)))
+  where
+    filter-wide : (place : Option ℕ) → bits_after (filter_or_line tables src dst channels place) ≡ 32
+    filter-wide None = refl
+    filter-wide (Some place) = refl
+
+-- a plan of a client that records leaves the client's bits
+pub bits-recorded : (tables : Filters) (quality : ℕ) (client device : Settings) → bits_left (plan_record tables quality client device).stages ≡ bits_of client.format
+bits-recorded tables quality client device =
+    let bits = bits_of client.format in
+    let stages = converting tables quality device client in
+    let wide = each-converting (λ spec. bits_after spec ≡ 32) tables quality device client refl
+    (λ layout other. converter-wide tables quality device.rate client.rate (channels_of layout)) in
+    cond_both (bits == 32) [] (Depth bits (channels_of client.layout) ∷ []) (λ last. bits_left (stages ++ last) ≡ bits)
+    (λ whole. ap bits_left (append-nil stages) ∙ wide-left stages wide ∙ sym (eqb-true bits 32 whole))
+    (λ fewer. bits-behind stages (Depth bits (channels_of client.layout) ∷ []) (omega arith))

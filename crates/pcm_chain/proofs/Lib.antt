@@ -1,5 +1,6 @@
 pub mod Bits
 pub mod Counting
+pub mod Far
 pub mod Feeding
 pub mod Fitting
 pub mod Level

@@ -1,7 +1,7 @@
 -- What a pull means: a block, no block, and one pull after another.
 use Rattle.std.proofs.Common.{◌≡◌, ◌<◌, ◌≤◌, ◌+◌, ◌-◌, ◌*◌, min, max, ℕ, zero, suc, ℤ, pos, Bool, false, List, [], ◌++◌, length, take, drop, get_or, replicate, inl, inr, All, refl, sym, ap, ◌∙◌, subst, arith}
 use Rattle.std.proofs.lemmas.Bool.{cases_lt}
-use Rattle.std.proofs.Math.Seq.{take-add}
+use Rattle.std.proofs.Math.Seq.{take-add, take-append-add}
 use Rattle.std.proofs.lemmas.List.Concat.{flat_map-append}
 use Rattle.std.proofs.lemmas.List.{append-nil, append_assoc, drop_all, drop_at, drop-drop, ext_get_or, take_at, length-append, length-drop, length-replicate, length-take-le, nil_from_length, take-append-drop, take_all}
 use Rattle.std.proofs.lemmas.List.Elements.{All-nil, All-append, All-take, All-replicate}
@@ -33,9 +33,12 @@ use Rattle.pcm_chain.specs.Boxes.{kept_in}
 use Rattle.pcm_chain.specs.Chains.{boxes_in, plan_in, counts_in, StagesStand, ChainStands}
 use Rattle.pcm_chain.specs.Counts.{allowed_in_all, AreBounded, Goes, StandFor}
 use Rattle.pcm_chain.specs.Feeds.{fed_through, AreFed}
-use Rattle.pcm_chain.specs.Pulls.{IsPastTheEnd, PullsAsFar, StandsBehind, Pulls}
+use Rattle.pcm_chain.specs.Far.{AreSoFar, ChainIsSoFar}
+use Rattle.pcm_chain.specs.Pulls.{IsPastTheEnd, PullsAsFar, IsFarBehind, GoesFar, StandsBehind, Pulls}
+use Rattle.pcm_chain.proofs.Bits.{interleaved-bits}
 use Rattle.pcm_chain.proofs.Counting.{Blocks, past-allowed, goes-real, in_time-real, offers-all, offers-given, offers-silent, offers-ends, offers-enough, offers-far}
-use Rattle.pcm_chain.proofs.Streaming.{Asks, stages-fed, comes-out}
+use Rattle.pcm_chain.proofs.Far.{Asks, chain-far, AreFarther, fed-far}
+use Rattle.pcm_chain.proofs.Streaming.{stages-fed, comes-out}
 use Rattle.pcm_chain.proofs.Waiting.{replicate-add}
 
 -- ---- a block
@@ -92,11 +95,106 @@ pub record IsBlock {B : Type 0} (kept : B → Kept) (tables : Filters) (gain : G
   pub bits : HaveBits (bits_left (plan_in old).stages) (fed_through (kept_in kept (boxes_in old)) tables gain want (plan_in old).stages (offered (channels_of (plan_in old).source) advance waiting))
   pub out : after ≡ written (fed_through (kept_in kept (boxes_in old)) tables gain want (plan_in old).stages (offered (channels_of (plan_in old).source) advance waiting)) before
 
+-- ---- how far a block goes
+
+-- how many frames it offers in all
+taken-offered : {B : Type 0} (kept : B → Kept) (tables : Filters) (gain : Gain) (ended : Bool) (want : ℕ) (waiting : List Frame) (old new : ChainOf B) (advance : Advance) (out_old out_new : List ℤ)
+    → IsBlock kept tables gain ended want waiting old new advance out_old out_new → HaveChannels (channels_of (plan_in old).source) (offered (channels_of (plan_in old).source) advance waiting)
+taken-offered kept tables gain ended want waiting old new advance out_old out_new h =
+    let c = channels_of (plan_in old).source in
+    let P : Frame → Type 0 = λ (frame : Frame). length frame ≡ c in
+    All-append P (take advance.eaten waiting) (replicate advance.silent (silence c)) (All-take P advance.eaten waiting h.have) (All-replicate P advance.silent (silence c) (length-replicate c (pos 0)))
+
+-- what a block means by the counts
+pub record BlockFar {B : Type 0} (kept : B → Kept) (tables : Filters) (ended : Bool) (want : ℕ) (waiting : List Frame) (old new : ChainOf B) (n quiet before : ℕ) (advance : Advance) (out : List ℤ) : Type 0 where
+  pub blocks : Blocks (rate_in_plan (plan_in old)) ended n quiet before (length waiting) want advance
+  pub asks : Asks (rate_in_plan (plan_in old)) (n + quiet) before (length (offered (channels_of (plan_in old).source) advance waiting)) want advance.given
+  pub goes : GoesFar kept tables ended want (length waiting) old new n before (record { given = advance.given; eaten = advance.eaten }) out
+
+pub block-far : {B : Type 0} (kept : B → Kept) (tables : Filters) (gain : Gain) (ended : Bool) (want : ℕ) (waiting : List Frame) (old new : ChainOf B) (advance : Advance) (out_old out_new : List ℤ)
+    (n quiet before : ℕ) → IsBlock kept tables gain ended want waiting old new advance out_old out_new → ChainIsSoFar kept tables old n quiet before → IsPastTheEnd ended quiet waiting
+    → BlockFar kept tables ended want waiting old new n quiet before advance out_new
+block-far {B = B} kept tables gain ended want waiting old new advance out_old out_new n quiet before h stands past =
+    record { blocks = blocks; asks = asks; goes = record { far = record { given = far.0; eaten = far.1 }; bits = bits; behind = behind } }
+  where
+    plan : PlanSeen
+    plan = plan_in old
+
+    rate : Rate
+    rate = rate_in_plan plan
+
+    c : ℕ
+    c = channels_of plan.source
+
+    m : ℕ
+    m = advance.given
+
+    keeps : Spec → Kept
+    keeps = kept_in kept (boxes_in old)
+
+    input : List Frame
+    input = offered c advance waiting
+
+    blocks : Blocks rate ended n quiet before (length waiting) want advance
+    blocks = record {
+      ratio = ratio-in plan stands.fits;
+      in_time = in_time-real rate (counts_in old) n before stands.counts h.bounded.in_time;
+      silent = stands.silent;
+      past = λ some. ((past some).0, ap length (past some).1);
+      goes = goes-real rate ended (counts_in old) n before (length waiting) want advance stands.counts h.goes;
+    }
+
+    offered-all : length input ≡ advance.eaten + advance.silent
+    offered-all = length-offered c advance waiting h.within
+
+    asks : Asks rate (n + quiet) before (length input) want m
+    asks = rw offered-all (record { all = offers-all rate ended n quiet before (length waiting) want advance blocks; gives = offers-given rate ended n quiet before (length waiting) want advance blocks })
+
+    limits : IsPlan plan
+    limits = stands.fits
+
+    done : AreFarther (kept_in kept (boxes_in new)) tables plan.stages (n + quiet + length input) (before + m) m (channels_of plan.target) (fed_through keeps tables gain want plan.stages input)
+    done = fed-far keeps (kept_in kept (boxes_in new)) tables gain want plan.stages c (channels_of plan.target) (n + quiet) input before m limits.specs limits.one_rate limits.follow stands.stages
+        (taken-offered kept tables gain ended want waiting old new advance out_old out_new h) asks h.fed
+
+    far : (advance.given ≡ min want (allowed_in_all ended rate (n + length waiting) - before)) × (n + advance.eaten ≡ max n (min (n + length waiting) (need rate (before + want))))
+    far = offers-far rate ended n quiet before (length waiting) want advance blocks
+
+    bits : All (FitsBits (bits_left plan.stages)) (take (m * channels_of plan.target) out_new)
+    bits =
+        let frames = fed_through keeps tables gain want plan.stages input in
+        let list = interleaved frames in
+        let long : length list ≡ m * channels_of plan.target = length-interleaved (channels_of plan.target) frames done.channels ∙ ap (λ k. k * channels_of plan.target) done.count in
+        let front : take (m * channels_of plan.target) out_new ≡ list = ap (take (m * channels_of plan.target)) h.out ∙ take_at list (drop (length list) out_old) (m * channels_of plan.target) long in
+        subst (All (FitsBits (bits_left plan.stages))) (sym front) (interleaved-bits (bits_left plan.stages) frames h.bits)
+
+    total : n + quiet + length input ≡ n + advance.eaten + (quiet + advance.silent)
+    total = omega (arith, offered-all)
+
+    stand : PlanSeen → Type 0
+    stand seen = AreSoFar (kept_in kept (boxes_in new)) tables seen.stages (n + advance.eaten + (quiet + advance.silent)) (before + m)
+
+    behind : IsFarBehind kept tables ended (length waiting) new n before (record { given = advance.given; eaten = advance.eaten })
+    behind = record {
+      zeros = quiet + advance.silent;
+      far = record {
+        fits = subst IsPlan (sym h.plan) limits;
+        counts = subst (λ (p : PlanSeen). StandFor (rate_in_plan p) (counts_in new) (n + advance.eaten) (before + m)) (sym h.plan) (h.counts n before stands.counts);
+        silent = subst (λ (p : PlanSeen). quiet + advance.silent ≡ need (rate_in_plan p) (before + m) - (n + advance.eaten)) (sym h.plan)
+            (offers-silent rate ended n quiet before (length waiting) want advance blocks);
+        stages = subst stand (sym h.plan) (subst (λ k. AreSoFar (kept_in kept (boxes_in new)) tables plan.stages k (before + m)) total done.far);
+      };
+      ends = λ some. offers-ends rate ended n quiet before (length waiting) want advance blocks some;
+    }
+
+-- ---- what a block gives
+
 pub block-pulls : {B : Type 0} (kept : B → Kept) (tables : Filters) (gain : Gain) (ended : Bool) (want : ℕ) (waiting : List Frame) (old new : ChainOf B) (advance : Advance) (out_old out_new : List ℤ)
     (x : List Frame) (quiet before : ℕ) → IsBlock kept tables gain ended want waiting old new advance out_old out_new → ChainStands kept tables old x quiet before → IsPastTheEnd ended quiet waiting
     → Pulls kept tables gain ended want waiting old new x before (record { given = advance.given; eaten = advance.eaten }) out_old out_new
+unfolding block-far
 block-pulls {B = B} kept tables gain ended want waiting old new advance out_old out_new x quiet before h stands past =
-    record { far = record { given = far.0; eaten = far.1 }; frames = h.out ∙ ap (λ list. written list out_old) given-are; bits = subst (HaveBits (bits_left plan.stages)) given-are h.bits; stands = behind }
+    record { far = by_counts.goes.far; frames = h.out ∙ ap (λ list. written list out_old) given-are; bits = subst (HaveBits (bits_left plan.stages)) given-are h.bits; stands = behind }
   where
     plan : PlanSeen
     plan = plan_in old
@@ -122,28 +220,17 @@ block-pulls {B = B} kept tables gain ended want waiting old new advance out_old 
     input : List Frame
     input = offered c advance waiting
 
-    blocks : Blocks rate ended n quiet before (length waiting) want advance
-    blocks = record {
-      ratio = ratio-in plan stands.fits;
-      in_time = in_time-real rate (counts_in old) n before stands.counts h.bounded.in_time;
-      silent = stands.silent;
-      past = λ some. ((past some).0, ap length (past some).1);
-      goes = goes-real rate ended (counts_in old) n before (length waiting) want advance stands.counts h.goes;
-    }
+    by_counts : BlockFar kept tables ended want waiting old new n quiet before advance out_new
+    by_counts = block-far kept tables gain ended want waiting old new advance out_old out_new n quiet before h (chain-far kept tables old x quiet before stands) past
 
     eaten-all : length all ≡ n + quiet
     eaten-all = omega (arith, length-append x (replicate quiet (silence c)), length-replicate quiet (silence c))
 
-    offered-all : length input ≡ advance.eaten + advance.silent
-    offered-all = length-offered c advance waiting h.within
-
     asks : Asks rate (length all) before (length input) want m
-    asks = rw (eaten-all, offered-all) (record { all = offers-all rate ended n quiet before (length waiting) want advance blocks; gives = offers-given rate ended n quiet before (length waiting) want advance blocks })
+    asks = subst (λ k. Asks rate k before (length input) want m) (sym eaten-all) by_counts.asks
 
     have : HaveChannels c input
-    have =
-        let P : Frame → Type 0 = λ (frame : Frame). length frame ≡ c in
-        All-append P (take advance.eaten waiting) (replicate advance.silent (silence c)) (All-take P advance.eaten waiting h.have) (All-replicate P advance.silent (silence c) (length-replicate c (pos 0)))
+    have = taken-offered kept tables gain ended want waiting old new advance out_old out_new h
 
     limits : IsPlan plan
     limits = stands.fits
@@ -160,14 +247,11 @@ block-pulls {B = B} kept tables gain ended want waiting old new advance out_old 
     count : length (x ++ take advance.eaten waiting) ≡ n + advance.eaten
     count = omega (arith, length-append x (take advance.eaten waiting), length-take-le advance.eaten waiting h.within)
 
-    far : (advance.given ≡ min want (allowed_in_all ended rate (n + length waiting) - before)) × (n + advance.eaten ≡ max n (min (n + length waiting) (need rate (before + want))))
-    far = offers-far rate ended n quiet before (length waiting) want advance blocks
-
     enough : (k : ℕ) → k < m → advance.eaten < length waiting → before + k < can rate (length (x ++ take advance.eaten waiting))
     enough k below fewer =
         let ratio = ratio-in plan limits in
-        let needed = offers-enough rate ended n quiet before (length waiting) want advance blocks fewer in
-        let wanted : m ≤ want = omega (arith, far.0) in
+        let needed = offers-enough rate ended n quiet before (length waiting) want advance by_counts.blocks fewer in
+        let wanted : m ≤ want = (let far = by_counts.goes.far in omega (arith, far.given)) in
         let grown = need_grows rate (before + m) (before + want) ratio.dst (omega arith) in
         let allowed = (can-greatest rate ratio.src ratio.dst (before + m) (length (x ++ take advance.eaten waiting))).0 (omega (arith, count)) in
         omega (arith, allowed)
@@ -185,6 +269,9 @@ block-pulls {B = B} kept tables gain ended want waiting old new advance out_old 
         (done.1 ∙ sym (length-outs plan tables gain (x ++ waiting) before m))
         (λ k below. given-at k (omega (arith, done.1)))
 
+    reached : ChainIsSoFar kept tables new (n + advance.eaten) (quiet + advance.silent) (before + m)
+    reached = by_counts.goes.behind.far
+
     stand : PlanSeen → Type 0
     stand seen = StagesStand (kept_in kept (boxes_in new)) tables seen.stages ((x ++ take advance.eaten waiting) ++ replicate (quiet + advance.silent) (silence (channels_of seen.source))) (before + m)
 
@@ -192,19 +279,27 @@ block-pulls {B = B} kept tables gain ended want waiting old new advance out_old 
     behind = record {
       zeros = quiet + advance.silent;
       stands = record {
-        fits = subst IsPlan (sym h.plan) limits;
+        fits = reached.fits;
         frames = subst (λ (p : PlanSeen). HaveChannels (channels_of p.source) (x ++ take advance.eaten waiting)) (sym h.plan)
             (All-append (λ (frame : Frame). length frame ≡ c) x (take advance.eaten waiting) stands.frames (All-take (λ (frame : Frame). length frame ≡ c) advance.eaten waiting h.have));
-        counts = subst (λ (p : PlanSeen). StandFor (rate_in_plan p) (counts_in new) (length (x ++ take advance.eaten waiting)) (before + m)) (sym h.plan)
-            (subst (λ k. StandFor rate (counts_in new) k (before + m)) (sym count) (h.counts n before stands.counts));
-        silent = subst (λ (p : PlanSeen). quiet + advance.silent ≡ need (rate_in_plan p) (before + m) - length (x ++ take advance.eaten waiting)) (sym h.plan)
-            (subst (λ k. quiet + advance.silent ≡ need rate (before + m) - k) (sym count) (offers-silent rate ended n quiet before (length waiting) want advance blocks));
+        counts = subst (λ k. StandFor (rate_in_plan (plan_in new)) (counts_in new) k (before + m)) (sym count) reached.counts;
+        silent = subst (λ k. quiet + advance.silent ≡ need (rate_in_plan (plan_in new)) (before + m) - k) (sym count) reached.silent;
         stages = subst stand (sym h.plan) (rw moved at done.0);
       };
-      ends = λ some. offers-ends rate ended n quiet before (length waiting) want advance blocks some;
+      ends = by_counts.goes.behind.ends;
     }
 
 -- where more may come no silence was eaten
+pub no-silence-far : {B : Type 0} (kept : B → Kept) (tables : Filters) (waiting : ℕ) (chain : ChainOf B) (n before : ℕ) (pulled : Pulled)
+    → IsFarBehind kept tables false waiting chain n before pulled → ChainIsSoFar kept tables chain (n + pulled.eaten) 0 (before + pulled.given)
+no-silence-far kept tables waiting chain n before pulled behind =
+    subst (λ zeros. ChainIsSoFar kept tables chain (n + pulled.eaten) zeros (before + pulled.given)) (none behind.zeros refl) behind.far
+  where
+    none : (zeros : ℕ) → zeros ≡ behind.zeros → zeros ≡ 0
+    none zero same = refl
+    none (suc more) same = absurd (let no = (behind.ends (omega (arith, same))).0 in cc)
+
+-- and so it is for the frames
 pub no-silence-behind : {B : Type 0} (kept : B → Kept) (tables : Filters) (waiting : List Frame) (chain : ChainOf B) (x : List Frame) (before : ℕ) (pulled : Pulled)
     → StandsBehind kept tables false waiting chain x before pulled → ChainStands kept tables chain (x ++ take pulled.eaten waiting) 0 (before + pulled.given)
 no-silence-behind kept tables waiting chain x before pulled behind =
@@ -216,11 +311,40 @@ no-silence-behind kept tables waiting chain x before pulled behind =
 
 -- ---- no block, one more, and one that falls short
 
--- where nothing was asked for nothing was pulled
+-- where nothing was asked for a chain stays where it is
+pub stays-far : {B : Type 0} (kept : B → Kept) (tables : Filters) (ended : Bool) (waiting : List Frame) (chain : ChainOf B) (n quiet before : ℕ) (out : List ℤ)
+    → ChainIsSoFar kept tables chain n quiet before → IsPastTheEnd ended quiet waiting → GoesFar kept tables ended 0 (length waiting) chain chain n before (record { given = 0; eaten = 0 }) out
+stays-far kept tables ended waiting chain n quiet before out stands past = record {
+  far = record { given = omega arith; eaten = eats quiet stands.silent past };
+  bits = subst (λ k. All (FitsBits (bits_left (plan_in chain).stages)) (take k out)) none (All-nil (FitsBits (bits_left (plan_in chain).stages)));
+  behind = record {
+    zeros = quiet;
+    far = subst (λ k. ChainIsSoFar kept tables chain (n + 0) quiet k) same (subst (λ k. ChainIsSoFar kept tables chain k quiet before) still stands);
+    ends = λ some. ((past some).0, sym (ap length (past some).1));
+  };
+}
+  where
+    none : 0 ≡ 0 * channels_of (plan_in chain).target
+    none = omega arith
+
+    same : before ≡ before + 0
+    same = omega arith
+
+    still : n ≡ n + 0
+    still = omega arith
+
+    rate : Rate
+    rate = rate_in_plan (plan_in chain)
+
+    eats : (quiet : ℕ) → quiet ≡ need rate before - n → IsPastTheEnd ended quiet waiting → n + 0 ≡ max n (min (n + length waiting) (need rate (before + 0)))
+    eats zero silent past = omega (arith, silent, ap (need rate) same)
+    eats (suc quiet) silent past = let none = ap length (past (omega arith)).1 in omega (arith, none)
+
+-- and nothing was pulled
 pub nothing-pulled : {B : Type 0} (kept : B → Kept) (tables : Filters) (gain : Gain) (ended : Bool) (waiting : List Frame) (chain : ChainOf B) (x : List Frame) (quiet before : ℕ) (out : List ℤ)
     → ChainStands kept tables chain x quiet before → IsPastTheEnd ended quiet waiting → Pulls kept tables gain ended 0 waiting chain chain x before (record { given = 0; eaten = 0 }) out out
 nothing-pulled kept tables gain ended waiting chain x quiet before out stands past = record {
-  far = record { given = omega arith; eaten = eats quiet stands.silent past };
+  far = goes.far;
   frames = refl;
   bits = All-nil (λ (frame : Frame). All (FitsBits (bits_left (plan_in chain).stages)) frame);
   stands = record {
@@ -230,15 +354,11 @@ nothing-pulled kept tables gain ended waiting chain x quiet before out stands pa
   };
 }
   where
+    goes : GoesFar kept tables ended 0 (length waiting) chain chain (length x) before (record { given = 0; eaten = 0 }) out
+    goes = stays-far kept tables ended waiting chain (length x) quiet before out (chain-far kept tables chain x quiet before stands) past
+
     same : before ≡ before + 0
     same = omega arith
-
-    rate : Rate
-    rate = rate_in_plan (plan_in chain)
-
-    eats : (quiet : ℕ) → quiet ≡ need rate before - length x → IsPastTheEnd ended quiet waiting → length x + 0 ≡ max (length x) (min (length x + length waiting) (need rate (before + 0)))
-    eats zero silent past = omega (arith, silent, ap (need rate) same)
-    eats (suc quiet) silent past = let none = ap length (past (omega arith)).1 in omega (arith, none)
 
 -- more frames after those that were written
 pub written-behind : (list more : List Frame) (old out : List ℤ) (at : ℕ) → out ≡ written list old → length (interleaved list) ≡ at
@@ -265,6 +385,97 @@ put-end at out piece =
 
 pub end-taken : (at : ℕ) (out : List ℤ) → take (length out - at) (drop at out) ≡ drop at out
 end-taken at out = take_all (length out - at) (drop at out) (omega (arith, length-drop at out))
+
+-- how far a second pull goes after a first one that gave all that it was asked for
+pub far-on : (rate : Rate) (ended : Bool) (asked more n waiting before : ℕ) (first second : Pulled) → IsRatio rate → first.given ≡ asked → PullsAsFar rate ended asked n waiting before first
+    → PullsAsFar rate ended more (n + first.eaten) (waiting - first.eaten) (before + first.given) second
+    → PullsAsFar rate ended (asked + more) n waiting before (record { given = first.given + second.given; eaten = first.eaten + second.eaten })
+far-on rate ended asked more n waiting before first second ratio full one two =
+    let within : first.eaten ≤ waiting = omega (arith, one.eaten) in
+    let all : n + first.eaten + (waiting - first.eaten) ≡ n + waiting = omega (arith, within) in
+    let place : before + first.given + more ≡ before + (asked + more) = omega arith in
+    record {
+      given = omega (arith, one.given, two.given, ap (allowed_in_all ended rate) all);
+      eaten = omega (arith, one.eaten, two.eaten, within, ap (need rate) place, need_grows rate (before + asked) (before + (asked + more)) ratio.dst (omega arith));
+    }
+
+pub record GoesOnFar {B : Type 0} (kept : B → Kept) (tables : Filters) (ended : Bool) (asked more : ℕ) (waiting : List Frame) (old mid new : ChainOf B) (n before : ℕ)
+    (first second : Pulled) (middle part : List ℤ) : Type 0 where
+  pub full : first.given ≡ asked
+  pub plan : plan_in mid ≡ plan_in old
+  pub long : asked * channels_of (plan_in old).target ≤ length middle
+  pub is : IsPlan (plan_in old)
+  pub pulled : GoesFar kept tables ended asked (length waiting) old mid n before first middle
+  pub next : ChainIsSoFar kept tables mid (n + first.eaten) pulled.behind.zeros (before + first.given) → IsPastTheEnd ended pulled.behind.zeros (drop first.eaten waiting)
+      → GoesFar kept tables ended more (length (drop first.eaten waiting)) mid new (n + first.eaten) (before + first.given) second part
+
+pub goes-far : {B : Type 0} (kept : B → Kept) (tables : Filters) (ended : Bool) (asked more : ℕ) (waiting : List Frame) (old mid new : ChainOf B) (n before : ℕ)
+    (first second : Pulled) (middle part : List ℤ) → GoesOnFar kept tables ended asked more waiting old mid new n before first second middle part
+    → GoesFar kept tables ended (asked + more) (length waiting) old new n before (record { given = first.given + second.given; eaten = first.eaten + second.eaten })
+    (take (asked * channels_of (plan_in old).target) middle ++ part)
+goes-far {B = B} kept tables ended asked more waiting old mid new n before first second middle part h = record { far = far; bits = bits; behind = behind }
+  where
+    plan : PlanSeen
+    plan = plan_in old
+
+    rate : Rate
+    rate = rate_in_plan plan
+
+    c : ℕ
+    c = channels_of plan.target
+
+    one : PullsAsFar rate ended asked n (length waiting) before first
+    one = h.pulled.far
+
+    within : first.eaten ≤ length waiting
+    within = omega (arith, one.eaten)
+
+    rest : List Frame
+    rest = drop first.eaten waiting
+
+    left : length rest ≡ length waiting - first.eaten
+    left = length-drop first.eaten waiting
+
+    past : IsPastTheEnd ended h.pulled.behind.zeros rest
+    past some =
+        let ends = h.pulled.behind.ends some in
+        (ends.0, nil_from_length rest (omega (arith, left, ends.1)))
+
+    two : GoesFar kept tables ended more (length rest) mid new (n + first.eaten) (before + first.given) second part
+    two = h.next h.pulled.behind.far past
+
+    far : PullsAsFar rate ended (asked + more) n (length waiting) before (record { given = first.given + second.given; eaten = first.eaten + second.eaten })
+    far = far-on rate ended asked more n (length waiting) before first second (ratio-in plan h.is) h.full one
+        (subst (λ k. PullsAsFar rate ended more (n + first.eaten) k (before + first.given) second) left
+        (subst (λ (p : PlanSeen). PullsAsFar (rate_in_plan p) ended more (n + first.eaten) (length rest) (before + first.given) second) h.plan two.far))
+
+    front : length (take (asked * c) middle) ≡ first.given * c
+    front = length-take-le (asked * c) middle h.long ∙ ap (λ k. k * c) (sym h.full)
+
+    size : (first.given + second.given) * c ≡ length (take (asked * c) middle) + second.given * c
+    size = omega (arith, front)
+
+    bits : All (FitsBits (bits_left plan.stages)) (take ((first.given + second.given) * c) (take (asked * c) middle ++ part))
+    bits =
+        let Fit : List ℤ → Type 0 = All (FitsBits (bits_left plan.stages)) in
+        let next = subst (λ (p : PlanSeen). All (FitsBits (bits_left p.stages)) (take (second.given * channels_of p.target) part)) h.plan two.bits in
+        let same = ap (λ k. take k (take (asked * c) middle ++ part)) size ∙ take-append-add (take (asked * c) middle) part (second.given * c) in
+        subst Fit (sym same) (All-append (FitsBits (bits_left plan.stages)) (take (asked * c) middle) (take (second.given * c) part)
+        (subst (λ k. Fit (take (k * c) middle)) h.full h.pulled.bits) next)
+
+    eaten : n + first.eaten + second.eaten ≡ n + (first.eaten + second.eaten)
+    eaten = omega arith
+
+    total : before + first.given + second.given ≡ before + (first.given + second.given)
+    total = omega arith
+
+    behind : IsFarBehind kept tables ended (length waiting) new n before (record { given = first.given + second.given; eaten = first.eaten + second.eaten })
+    behind = record {
+      zeros = two.behind.zeros;
+      far = subst (λ k. ChainIsSoFar kept tables new (n + (first.eaten + second.eaten)) two.behind.zeros k) total
+          (subst (λ k. ChainIsSoFar kept tables new k two.behind.zeros (before + first.given + second.given)) eaten two.behind.far);
+      ends = λ some. let ends = two.behind.ends some in (ends.0, omega (arith, ends.1, left, within));
+    }
 
 -- what is known of a second pull after a first one that gave all that it was asked for
 pub record GoesOn {B : Type 0} (kept : B → Kept) (tables : Filters) (gain : Gain) (ended : Bool) (asked more : ℕ) (waiting : List Frame) (old mid new : ChainOf B) (x : List Frame) (before : ℕ)
@@ -321,20 +532,10 @@ goes-on {B = B} kept tables gain ended asked more waiting old mid new x before f
     second-far : PullsAsFar rate ended more (length y) (length rest) (before + first.given) second
     second-far = subst (λ (p : PlanSeen). PullsAsFar (rate_in_plan p) ended more (length y) (length rest) (before + first.given) second) h.plan second-pulls.far
 
-    all : length y + length rest ≡ n + length waiting
-    all = omega (arith, long, left, within)
-
-    ratio : IsRatio rate
-    ratio = ratio-in plan h.is
-
     far : PullsAsFar rate ended (asked + more) n (length waiting) before (record { given = first.given + second.given; eaten = first.eaten + second.eaten })
-    far =
-        let full = h.full in
-        let place : before + first.given + more ≡ before + (asked + more) = omega arith in
-        record {
-          given = omega (arith, first-far.given, second-far.given, ap (allowed_in_all ended rate) all);
-          eaten = omega (arith, first-far.eaten, second-far.eaten, long, left, ap (need rate) place, need_grows rate (before + asked) (before + (asked + more)) ratio.dst (omega arith));
-        }
+    far = far-on rate ended asked more n (length waiting) before first second (ratio-in plan h.is) h.full first-far
+        (subst (λ k. PullsAsFar rate ended more k (length waiting - first.eaten) (before + first.given) second) long
+        (subst (λ k. PullsAsFar rate ended more (length y) k (before + first.given) second) left second-far))
 
     joined : y ++ rest ≡ x ++ waiting
     joined = append_assoc x (take first.eaten waiting) rest ∙ ap (λ list. x ++ list) (take-append-drop first.eaten waiting)
@@ -384,19 +585,26 @@ goes-on {B = B} kept tables gain ended asked more waiting old mid new x before f
       ends = λ some. let ends = second-pulls.stands.ends some in (ends.0, omega (arith, ends.1, left, within));
     }
 
--- a pull that gave less than it was asked for gives no more where more is asked for
+-- a pull that gave less than it was asked for goes no further where more is asked for
+short-far : (rate : Rate) (ended : Bool) (asked want n waiting before : ℕ) (pulled : Pulled) → IsRatio rate → pulled.given < asked → asked ≤ want → PullsAsFar rate ended asked n waiting before pulled
+    → PullsAsFar rate ended want n waiting before pulled
+short-far rate ended asked want n waiting before pulled ratio fewer within far =
+    let past = past-allowed ended rate (before + asked) (n + waiting) ratio (omega (arith, far.given)) in
+    let grown = need_grows rate (before + asked) (before + want) ratio.dst (omega arith) in
+    record { given = omega (arith, far.given); eaten = omega (arith, far.eaten, past, grown) }
+
+pub falls-far : {B : Type 0} (kept : B → Kept) (tables : Filters) (ended : Bool) (asked want waiting : ℕ) (old new : ChainOf B) (n before : ℕ) (pulled : Pulled) (out : List ℤ) → IsPlan (plan_in old)
+    → pulled.given < asked → asked ≤ want → GoesFar kept tables ended asked waiting old new n before pulled out → GoesFar kept tables ended want waiting old new n before pulled out
+falls-far kept tables ended asked want waiting old new n before pulled out is fewer within h =
+    record { far = short-far (rate_in_plan (plan_in old)) ended asked want n waiting before pulled (ratio-in (plan_in old) is) fewer within h.far; bits = h.bits; behind = h.behind }
+
+-- and gives no more
 pub falls-short : {B : Type 0} (kept : B → Kept) (tables : Filters) (gain : Gain) (ended : Bool) (asked want : ℕ) (waiting : List Frame) (old new : ChainOf B) (x : List Frame) (before : ℕ)
     (pulled : Pulled) (start out : List ℤ) → IsPlan (plan_in old) → pulled.given < asked → asked ≤ want
     → Pulls kept tables gain ended asked waiting old new x before pulled start out → Pulls kept tables gain ended want waiting old new x before pulled start out
 falls-short kept tables gain ended asked want waiting old new x before pulled start out is fewer within h =
-    let rate = rate_in_plan (plan_in old) in
-    let ratio = ratio-in (plan_in old) is in
-    let n = length x + length waiting in
-    let far = h.far in
-    let past = past-allowed ended rate (before + asked) n ratio (omega (arith, far.given)) in
-    let grown = need_grows rate (before + asked) (before + want) ratio.dst (omega arith) in
     record {
-      far = record { given = omega (arith, far.given); eaten = omega (arith, far.eaten, past, grown) };
+      far = short-far (rate_in_plan (plan_in old)) ended asked want (length x) (length waiting) before pulled (ratio-in (plan_in old) is) fewer within h.far;
       frames = h.frames;
       bits = h.bits;
       stands = h.stands;

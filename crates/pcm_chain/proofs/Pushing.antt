@@ -1,12 +1,12 @@
 -- What a push means: a block that is eaten whole, no block, and one push after another.
-use Rattle.std.proofs.Common.{◌≡◌, ◌<◌, ◌≤◌, ◌+◌, ◌-◌, ◌*◌, ◌/◌, ◌%◌, min, ℕ, ℤ, false, List, [], ◌∷◌, ◌++◌, length, take, drop, get_or, All, inl, inr, refl, sym, ap, ◌∙◌, subst, arith}
-use Rattle.std.specs.List.{flat_map, range_with_len}
+use Rattle.std.proofs.Common.{◌≡◌, ◌<◌, ◌≤◌, ◌+◌, ◌-◌, ◌*◌, ◌/◌, ◌%◌, min, ℕ, ℤ, false, List, [], ◌∷◌, ◌++◌, length, take, drop, All, inl, inr, refl, sym, ap, ◌∙◌, subst, arith}
+use Rattle.std.specs.List.{flat_map}
 use Rattle.std.proofs.lemmas.Bool.{cases_lt}
 use Rattle.std.proofs.Math.Nat.{mul-le-mul_right, mul-div_cancel, mul-mod_left, div-mul-le_self, div-add-mod'}
 use Rattle.std.proofs.Math.Seq.{take-add}
 use Rattle.std.proofs.lemmas.List.{append-nil, append_assoc, drop_at, take_at, take_all, take-take, length-append, length-drop, length-take-le, take-append-drop}
 use Rattle.std.proofs.lemmas.List.Concat.{flat_map-append}
-use Rattle.std.proofs.lemmas.List.Elements.{All-nil, All-head, All-tail, All-append, All-map, All-take, All-drop}
+use Rattle.std.proofs.lemmas.List.Elements.{All-append, All-take}
 use Rattle.pcm_num.specs.Limit.{FitsBits}
 use Rattle.pcm_format.specs.declared.format.Format.{Format}
 use Rattle.pcm_format.specs.Frames.{Frame, spelled_frame, spelled_frames}
@@ -36,9 +36,11 @@ use Rattle.pcm_chain.specs.Chains.{boxes_in, plan_in, counts_in, ChainStands}
 use Rattle.pcm_chain.specs.Counts.{eats_all, AreBounded, Goes, InTime, StandFor}
 use Rattle.pcm_chain.specs.Feeds.{first_frames, fed_through, AreFed}
 use Rattle.pcm_chain.specs.Pulls.{Pulls}
-use Rattle.pcm_chain.specs.Pushes.{HasRecorded, Pushes}
+use Rattle.pcm_chain.specs.Far.{ChainIsSoFar}
+use Rattle.pcm_chain.specs.Pushes.{HasRecorded, HasRecordedFar, Pushes, PushesFar}
 use Rattle.pcm_chain.proofs.Counting.{allowed-grows, fed-real}
-use Rattle.pcm_chain.proofs.Pulling.{block-pulls, no-silence-behind, offered}
+use Rattle.pcm_chain.proofs.Far.{chain-far}
+use Rattle.pcm_chain.proofs.Pulling.{IsBlock, block-far, block-pulls, no-silence-behind, no-silence-far, offered}
 
 -- ---- counts
 
@@ -104,7 +106,57 @@ pub record IsWhole {B : Type 0} (kept : B → Kept) (tables : Filters) (input : 
   pub bits : HaveBits (bits_left (plan_in old).stages) (fed_through (kept_in kept (boxes_in old)) tables unity (come old input + 1) (plan_in old).stages input)
   pub out : after ≡ written (fed_through (kept_in kept (boxes_in old)) tables unity (come old input + 1) (plan_in old).stages input) before
 
--- and what it means
+-- it goes as one that is asked for a frame more than comes
+whole-block : {B : Type 0} (kept : B → Kept) (tables : Filters) (input : List Frame) (old new : ChainOf B) (n : ℕ) (start out : List ℤ)
+    → IsWhole kept tables input old new start out → HasRecordedFar kept tables old n
+    → IsBlock kept tables unity false (come old input + 1) input old new (eats_all (rate_in_plan (plan_in old)) (counts_in old) (length input)) start out
+whole-block kept tables input old new n start out h records =
+    let plan = plan_in old in
+    let rate = rate_in_plan plan in
+    let ratio = ratio-in plan records.fits in
+    let m = come old input in
+    let clear = no-silence rate (counts_in old) n (can rate n) records.counts (need-can rate n ratio) in
+    let none : offered (channels_of plan.source) (eats_all rate (counts_in old) (length input)) input ≡ input =
+    append-nil (take (length input) input) ∙ take_all (length input) input (omega arith) in
+    record {
+      plan = h.plan;
+      bounded = h.bounded;
+      goes = whole-goes rate (counts_in old) (length input) ratio clear;
+      within = omega arith;
+      counts = h.counts;
+      have = h.have;
+      fed = subst (λ list. AreFed (kept_in kept (boxes_in old)) (kept_in kept (boxes_in new)) tables unity (m + 1) plan.stages list) (sym none) h.fed;
+      bits = subst (λ list. HaveBits (bits_left plan.stages) (fed_through (kept_in kept (boxes_in old)) tables unity (m + 1) plan.stages list)) (sym none) h.bits;
+      out = h.out ∙ ap (λ list. written (fed_through (kept_in kept (boxes_in old)) tables unity (m + 1) plan.stages list) start) (sym none);
+    }
+
+-- what it means by the counts
+pub record RecordsFar {B : Type 0} (kept : B → Kept) (tables : Filters) (input : List Frame) (old new : ChainOf B) (n : ℕ) (after : List ℤ) : Type 0 where
+  pub came : come old input ≡ can (rate_in_plan (plan_in old)) (n + length input) - can (rate_in_plan (plan_in old)) n
+  pub records : HasRecordedFar kept tables new (n + length input)
+  pub bits : All (FitsBits (bits_left (plan_in old).stages)) (take (come old input * channels_of (plan_in old).target) after)
+
+pub block-records-far : {B : Type 0} (kept : B → Kept) (tables : Filters) (input : List Frame) (old new : ChainOf B) (n : ℕ) (start out : List ℤ)
+    → IsWhole kept tables input old new start out → HasRecordedFar kept tables old n → RecordsFar kept tables input old new n out
+block-records-far kept tables input old new n start out h records =
+    let rate = rate_in_plan (plan_in old) in
+    let ratio = ratio-in (plan_in old) records.fits in
+    let before = can rate n in
+    let m = come old input in
+    let far = block-far kept tables unity false (m + 1) input old new (eats_all rate (counts_in old) (length input)) start out n 0 before
+    (whole-block kept tables input old new n start out h records) records (λ some. absurd (omega (arith, some))) in
+    let goes = far.goes in
+    let came : m ≡ can rate (n + length input) - before = (let pulls = goes.far in omega (arith, pulls.given)) in
+    let grown = can-grows rate n (n + length input) ratio (omega arith) in
+    let total : before + m ≡ can rate (n + length input) = omega (arith, came, grown) in
+    record {
+      came = came;
+      records = subst (λ k. ChainIsSoFar kept tables new (n + length input) 0 k) (total ∙ ap (λ (p : PlanSeen). can (rate_in_plan p) (n + length input)) (sym h.plan))
+          (no-silence-far kept tables (length input) new n before (record { given = m; eaten = length input }) goes.behind);
+      bits = goes.bits;
+    }
+
+-- and what comes of it
 pub record RecordsMore {B : Type 0} (kept : B → Kept) (tables : Filters) (input : List Frame) (old new : ChainOf B) (x : List Frame) (before after : List ℤ) : Type 0 where
   pub came : come old input ≡ can (rate_in_plan (plan_in old)) (length x + length input) - can (rate_in_plan (plan_in old)) (length x)
   pub records : HasRecorded kept tables new (x ++ input)
@@ -112,16 +164,10 @@ pub record RecordsMore {B : Type 0} (kept : B → Kept) (tables : Filters) (inpu
 
 pub block-records : {B : Type 0} (kept : B → Kept) (tables : Filters) (input : List Frame) (old new : ChainOf B) (x : List Frame) (start out : List ℤ)
     → IsWhole kept tables input old new start out → HasRecorded kept tables old x → RecordsMore kept tables input old new x start out
-block-records {B = B} kept tables input old new x start out h stands = record { came = came; records = recorded; frames = frames }
+block-records {B = B} kept tables input old new x start out h stands = record { came = far.came; records = recorded; frames = pulls.frames }
   where
-    plan : PlanSeen
-    plan = plan_in old
-
     rate : Rate
-    rate = rate_in_plan plan
-
-    ratio : IsRatio rate
-    ratio = ratio-in plan stands.fits
+    rate = rate_in_plan (plan_in old)
 
     n : ℕ
     n = length input
@@ -132,43 +178,27 @@ block-records {B = B} kept tables input old new x start out h stands = record { 
     before : ℕ
     before = can rate (length x)
 
-    clear : need rate (counts_in old).given ≤ (counts_in old).eaten
-    clear = no-silence rate (counts_in old) (length x) before stands.counts (need-can rate (length x) ratio)
+    records : HasRecordedFar kept tables old (length x)
+    records = chain-far kept tables old x 0 before stands
 
-    none : offered (channels_of plan.source) (eats_all rate (counts_in old) n) input ≡ input
-    none = append-nil (take n input) ∙ take_all n input (omega arith)
+    far : RecordsFar kept tables input old new (length x) out
+    far = block-records-far kept tables input old new (length x) start out h records
 
     pulls : Pulls kept tables unity false (m + 1) input old new x before (record { given = m; eaten = n }) start out
-    pulls = block-pulls kept tables unity false (m + 1) input old new (eats_all rate (counts_in old) n) start out x 0 before (record {
-      plan = h.plan;
-      bounded = h.bounded;
-      goes = whole-goes rate (counts_in old) n ratio clear;
-      within = omega arith;
-      counts = h.counts;
-      have = h.have;
-      fed = subst (λ list. AreFed (kept_in kept (boxes_in old)) (kept_in kept (boxes_in new)) tables unity (m + 1) plan.stages list) (sym none) h.fed;
-      bits = subst (λ list. HaveBits (bits_left plan.stages) (fed_through (kept_in kept (boxes_in old)) tables unity (m + 1) plan.stages list)) (sym none) h.bits;
-      out = h.out ∙ ap (λ list. written (fed_through (kept_in kept (boxes_in old)) tables unity (m + 1) plan.stages list) start) (sym none);
-    }) stands (λ some. absurd (omega (arith, some)))
-
-    came : m ≡ can rate (length x + n) - before
-    came = omega (arith, pulls.far.given)
+    pulls = block-pulls kept tables unity false (m + 1) input old new (eats_all rate (counts_in old) n) start out x 0 before
+        (whole-block kept tables input old new (length x) start out h records) stands (λ some. absurd (omega (arith, some)))
 
     all : before + m ≡ can (rate_in_plan (plan_in new)) (length (x ++ input))
     all =
-        let long = length-append x input in
-        let grown = can-grows rate (length x) (length x + n) ratio (omega arith) in
-        let total : before + m ≡ can rate (length x + n) = omega (arith, came, grown) in
-        total ∙ ap (can rate) (sym long) ∙ ap (λ (p : PlanSeen). can (rate_in_plan p) (length (x ++ input))) (sym h.plan)
+        let grown = can-grows rate (length x) (length x + n) (ratio-in (plan_in old) stands.fits) (omega arith) in
+        let total : before + m ≡ can rate (length x + n) = omega (arith, far.came, grown) in
+        total ∙ ap (can rate) (sym (length-append x input)) ∙ ap (λ (p : PlanSeen). can (rate_in_plan p) (length (x ++ input))) (sym h.plan)
 
     recorded : HasRecorded kept tables new (x ++ input)
     recorded =
         subst (λ k. ChainStands kept tables new (x ++ input) 0 k) all
         (subst (λ list. ChainStands kept tables new (x ++ list) 0 (before + m)) (take_all n input (omega arith))
         (no-silence-behind kept tables input new x before (record { given = m; eaten = n }) pulls.stands))
-
-    frames : out ≡ written (recs plan tables (x ++ input) before m) start
-    frames = pulls.frames
 
 -- this follows from the contracts of a block's calls
 pub whole-is : {B : Type 0} (kept : B → Kept) (tables : Filters) (input offers : List Frame) (old new : ChainOf B) (start out : List ℤ) (rate : Rate) (frames : ℕ) (advance : Advance) (stages : List Spec)
@@ -203,6 +233,14 @@ whole-is kept tables input offers old new start out rate frames advance stages r
       },
       ap (λ (a : Advance). a.given) full,
     )
+
+-- so a push of it goes as far as the counts say
+pub whole-pushes : {B : Type 0} (kept : B → Kept) (tables : Filters) (input : List Frame) (old new : ChainOf B) (eaten frames : ℕ) (pushed : Pushed) (start out : List ℤ)
+    → IsWhole kept tables input old new start out × (pushed.came ≡ come old input) → length input ≡ frames → HasRecordedFar kept tables old eaten
+    → PushesFar kept tables frames old new pushed eaten
+whole-pushes kept tables input old new eaten frames pushed start out whole count records =
+    let far = block-records-far kept tables input old new eaten start out whole.0 records in
+    subst (λ n. PushesFar kept tables n old new pushed eaten) count (record { came = whole.1 ∙ far.came; records = far.records })
 
 -- ---- the bytes of a block
 
@@ -248,19 +286,6 @@ copied-frames c n source samples items same long loaded =
 pub count-frames : (c n : ℕ) (samples : List ℤ) → 0 < c → length samples ≡ n * c → length (frames_of c samples) ≡ n
 count-frames c n samples above long = length-frames_of c samples ∙ ap (λ k. k / c) long ∙ mul-div_cancel n above
 
--- frames of `bits` bits are samples of as many
-pub interleaved-bits : (bits : ℕ) (list : List Frame) → HaveBits bits list → All (FitsBits bits) (interleaved list)
-interleaved-bits bits [] have = All-nil (FitsBits bits)
-interleaved-bits bits (frame ∷ list) have =
-    let P : Frame → Type 0 = λ (f : Frame). All (FitsBits bits) f in
-    All-append (FitsBits bits) frame (interleaved list) (All-head P frame list have) (interleaved-bits bits list (All-tail P frame list have))
-
--- and the other way round
-pub frames_of-bits : (bits c : ℕ) (samples : List ℤ) → All (FitsBits bits) samples → HaveBits bits (frames_of c samples)
-frames_of-bits bits c samples have =
-    All-map (λ (frame : Frame). All (FitsBits bits) frame) (λ k. take c (drop (k * c) samples)) (range_with_len 0 (length samples / c))
-    (λ i d below. All-take (FitsBits bits) c (drop (get_or (range_with_len 0 (length samples / c)) i d * c) samples) (All-drop (FitsBits bits) (get_or (range_with_len 0 (length samples / c)) i d * c) samples have))
-
 -- samples one after another are spelled as their frames are
 pub spelled-interleaved : (format : Format) (list : List Frame) → flat_map (spelled format) (interleaved list) ≡ spelled_frames format list
 spelled-interleaved format [] = refl
@@ -294,6 +319,30 @@ piece-frames c k m samples above within =
     ∙ ap (take m) (parted-frames c k samples above (omega arith)).1
 
 -- ---- no block, and one more
+
+-- before the first block a chain has recorded what it has
+pub none-pushed : {B : Type 0} (kept : B → Kept) (tables : Filters) (chain : ChainOf B) (eaten : ℕ) → HasRecordedFar kept tables chain eaten
+    → PushesFar kept tables 0 chain chain (record { came = 0; kept = 0 }) eaten
+none-pushed kept tables chain eaten records =
+    let rate = rate_in_plan (plan_in chain) in
+    let same : eaten ≡ eaten + 0 = omega arith in
+    record { came = omega (arith, ap (can rate) same); records = subst (HasRecordedFar kept tables chain) same records }
+
+-- and a second push goes on from a first one
+pub pushes-far : {B : Type 0} (kept : B → Kept) (tables : Filters) (n more : ℕ) (old mid new : ChainOf B) (first second : Pushed) (eaten : ℕ) → plan_in mid ≡ plan_in old → IsPlan (plan_in old)
+    → PushesFar kept tables n old mid first eaten → PushesFar kept tables more mid new second (eaten + n)
+    → PushesFar kept tables (n + more) old new (record { came = first.came + second.came; kept = first.kept + second.kept }) eaten
+pushes-far kept tables n more old mid new first second eaten plan is one two =
+    let rate = rate_in_plan (plan_in old) in
+    let ratio = ratio-in (plan_in old) is in
+    let place : eaten + n + more ≡ eaten + (n + more) = omega arith in
+    let next = subst (λ (p : PlanSeen). second.came ≡ can (rate_in_plan p) (eaten + n + more) - can (rate_in_plan p) (eaten + n)) plan two.came in
+    let up = can-grows rate eaten (eaten + n) ratio (omega arith) in
+    let further = can-grows rate (eaten + n) (eaten + (n + more)) ratio (omega arith) in
+    record {
+      came = omega (arith, one.came, next, up, further, ap (can rate) place);
+      records = subst (HasRecordedFar kept tables new) place two.records;
+    }
 
 -- before the first block nothing was pushed
 pub nothing-pushed : {B : Type 0} (kept : B → Kept) (tables : Filters) (format : Format) (chain : ChainOf B) (x : List Frame) (bytes : List ℕ) → HasRecorded kept tables chain x

@@ -1,5 +1,5 @@
 -- Boxes that keep what others keep: how they come to it, and that they stand for the same frames.
-use Rattle.std.proofs.Common.{◌≡◌, ◌<◌, ℕ, ℤ, List, [], ◌∷◌, ◌++◌, ◌-◌, length, replicate, get_or, All, sym, subst}
+use Rattle.std.proofs.Common.{◌≡◌, ◌<◌, ℕ, ℤ, List, [], ◌∷◌, ◌++◌, ◌+◌, ◌-◌, length, replicate, get_or, All, sym, subst}
 use Rattle.std.proofs.lemmas.List.Elements.{All-head, All-tail}
 use Rattle.pcm_format.specs.Frames.{Frame}
 use Rattle.pcm_format.specs.Layouts.{channels_of}
@@ -19,7 +19,8 @@ use Rattle.pcm_chain.specs.declared.chain.ChainOf.{ChainOf}
 use Rattle.pcm_chain.specs.Boxes.{kept_in, HaveFitted, HaveResumed, KeepAlike}
 use Rattle.pcm_chain.specs.Chains.{boxes_in, counts_in, plan_in, AreFitted, ChainStands, StagesStand}
 use Rattle.pcm_chain.specs.Counts.{StandFor}
-use Rattle.pcm_chain.specs.Resumes.{Resumes, StandsAs}
+use Rattle.pcm_chain.specs.Far.{AreSoFar}
+use Rattle.pcm_chain.specs.Resumes.{IsAsFar, Resumes, StandsAs}
 
 -- ---- a stage, and stages
 
@@ -40,6 +41,17 @@ stages-alike keeps others tables (spec ∷ specs) x given alike h =
       rw (All-head P spec specs alike) h.1,
       h.2,
       stages-alike keeps others tables specs h.0 given (All-tail P spec specs alike) h.3,
+    )
+
+-- and are as far
+far-alike : (keeps others : Spec → Kept) (tables : Filters) (specs : List Spec) (eaten given : ℕ) → All (λ spec. keeps spec ≡ others spec) specs
+    → AreSoFar others tables specs eaten given → AreSoFar keeps tables specs eaten given
+far-alike keeps others tables [] eaten given alike h = h
+far-alike keeps others tables (spec ∷ specs) eaten given alike h =
+    let P : Spec → Type 0 = λ s. keeps s ≡ others s in (
+      h.0,
+      rw (All-head P spec specs alike) h.1,
+      far-alike keeps others tables specs h.0 given (All-tail P spec specs alike) h.2,
     )
 
 -- and are fitted as these
@@ -64,6 +76,18 @@ chain-alike kept other chain plan counts alike tables x zeros given h = record {
     fed : PlanSeen → List Frame
     fed p = x ++ replicate zeros (silence (channels_of p.source))
 
+-- and is as far
+chain-as-far : {B : Type 0} (kept : B → Kept) (other chain : ChainOf B) → plan_in chain ≡ plan_in other → counts_in chain ≡ counts_in other
+    → KeepAlike kept (plan_in chain).stages (boxes_in chain) (boxes_in other) → IsAsFar kept other chain
+chain-as-far kept other chain plan counts alike tables eaten zeros given h = record {
+  fits = subst IsPlan (sym plan) h.fits;
+  counts = subst (λ n. StandFor (rate_in_plan chain.plan) n eaten given) (sym counts)
+      (subst (λ p. StandFor (rate_in_plan p) other.counts eaten given) (sym plan) h.counts);
+  silent = subst (λ p. zeros ≡ need (rate_in_plan p) given - eaten) (sym plan) h.silent;
+  stages = far-alike (kept_in kept chain.boxes) (kept_in kept other.boxes) tables chain.plan.stages (eaten + zeros) given alike
+      (subst (λ p. AreSoFar (kept_in kept other.boxes) tables p.stages (eaten + zeros) given) (sym plan) h.stages);
+}
+
 -- and so it has resumed
 pub chain-resumes : {B : Type 0} (kind : B → Kind) (kept : B → Kept) (mark : B → ℕ) (other old chain : ChainOf B) → AreFitted kept other → plan_in chain ≡ plan_in other
     → counts_in chain ≡ counts_in other → HaveResumed kind kept mark (plan_in chain).stages (boxes_in other) (boxes_in old) (boxes_in chain)
@@ -76,6 +100,7 @@ chain-resumes kind kept mark other old chain fits plan counts boxes =
       marks = boxes.marks;
       fitted = fitted-alike kept chain.boxes other.boxes chain.plan.stages boxes.alike
           (subst (λ p. HaveFitted kept other.boxes p.stages) (sym plan) fits);
+      far = chain-as-far kept other chain plan counts boxes.alike;
       stands = stands;
       records = λ tables x h. subst (λ p. ChainStands kept tables chain x 0 (can (rate_in_plan p) (length x))) (sym plan)
           (stands tables x 0 (can (rate_in_plan other.plan) (length x)) h);

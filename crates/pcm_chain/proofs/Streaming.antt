@@ -1,13 +1,13 @@
 -- What stages stand for after a block went through them, and what it gave.
-use Rattle.std.proofs.Common.{◌≡◌, ◌≢◌, ◌≤◌, ◌<◌, ◌+◌, ◌-◌, min, max, ℕ, ℤ, pos, negsuc, ◌<ℤ◌, List, [], ◌∷◌, ◌++◌, length, take, get_or, All, refl, sym, ap, ◌∙◌, subst, arith}
+use Rattle.std.proofs.Common.{◌≡◌, ◌≢◌, ◌≤◌, ◌<◌, ◌+◌, ℕ, ℤ, pos, negsuc, ◌<ℤ◌, List, [], ◌∷◌, ◌++◌, length, take, get_or, All, refl, sym, ap, ◌∙◌, subst, arith}
 use Rattle.std.proofs.lemmas.Int.{ints}
 use Rattle.std.proofs.lemmas.List.{take_all, length-append, get_or-append-add}
 use Rattle.std.proofs.lemmas.List.Elements.{All-head, All-tail, All-weaker}
 use Rattle.std.proofs.lemmas.List.FromFn.{get_or-map-range_with_len}
 use Rattle.pcm_format.specs.Frames.{Frame}
 use Rattle.pcm_rate.specs.declared.rate.Rate.{Rate}
-use Rattle.pcm_rate.specs.Rates.{need, can, unchanged, IsRatio}
-use Rattle.pcm_rate.proofs.Counts.{can-greatest, need-unchanged, can-unchanged}
+use Rattle.pcm_rate.specs.Rates.{can, unchanged, IsRatio}
+use Rattle.pcm_rate.proofs.Counts.{can-greatest}
 use Rattle.pcm_feeder.specs.declared.kind.Kind.TheVariants as kinds
 use Rattle.pcm_feeder.specs.declared.stage.Gain.{Gain}
 use Rattle.pcm_feeder.specs.declared.stage.Spec.{Spec}
@@ -17,115 +17,38 @@ use Rattle.pcm_feeder.specs.Kept.{Kept, StandsFor}
 use Rattle.pcm_feeder.specs.Kinds.{kind_of}
 use Rattle.pcm_feeder.specs.Layouts.{in_layout, at_gain}
 use Rattle.pcm_feeder.specs.Limits.{IsSpec}
-use Rattle.pcm_feeder.specs.Stages.{rate_of, channels_in, channels_out, at_bits, conv, all_outputs}
+use Rattle.pcm_feeder.specs.Stages.{channels_in, channels_out, at_bits, conv, all_outputs}
 use Rattle.pcm_feeder.specs.Streams.{Stream, silence, stream_of, HaveChannels}
 use Rattle.pcm_feeder.specs.Turns.{Turn, Continues}
 use Rattle.pcm_feeder.proofs.Outputs.{conv-gain, src-above, dst-above}
-use Rattle.pcm_feeder.proofs.Turns.{turn-continues, given-unchanged}
+use Rattle.pcm_feeder.proofs.Turns.{turn-continues}
 use Rattle.pcm_feeder.proofs.Unrated.{conv-matrix, conv-volume, conv-depth}
 use Rattle.pcm_plan.specs.Plans.{rate_among}
 use Rattle.pcm_plan.specs.Fits.{Follow, IsUnrated, HaveOneRate, TurnsEach, GainIsLate}
 use Rattle.pcm_plan.specs.Through.{through}
-use Rattle.pcm_plan.proofs.Fits.{one-rate-unrated}
 use Rattle.pcm_plan.proofs.Through.{through-local, need_through-rate}
 use Rattle.pcm_chain.specs.Chains.{HasGiven, StagesStand}
 use Rattle.pcm_chain.specs.Feeds.{asked, turn_in, fed_through, AreFed}
+use Rattle.pcm_chain.proofs.Far.{stands-far, stages-far, stages-level, rate-unrated, level-asks, Asks, HeadFar, head-far}
 use Rattle.pcm_chain.proofs.Standing.{given-grows}
-
--- ---- counts
-
--- Stages that have eaten `eaten` frames and given `before` frames are offered more, all of which they eat, and give m of those wanted.
-pub record Asks (rate : Rate) (eaten before offered want m : ℕ) : Type 0 where
-  pub all : eaten + offered ≡ max eaten (min (eaten + offered) (need rate (before + want)))
-  pub gives : m ≡ min want (can rate (eaten + offered) - before)
-
--- without a change of rate what is given is what was offered
-level-asks : (eaten offered want m : ℕ) → Asks unchanged eaten eaten offered want m → m ≡ offered
-level-asks eaten offered want m asks = omega (arith, asks.all, asks.gives, need-unchanged (eaten + want), can-unchanged (eaten + offered))
-
--- stages that keep the rate have that of no change
-pub rate-unrated : (specs : List Spec) → All IsUnrated specs → rate_among specs ≡ unchanged
-rate-unrated [] level = refl
-rate-unrated (Matrix from to ∷ specs) level = rate-unrated specs (All-tail IsUnrated (Matrix from to) specs level)
-rate-unrated (Hold src dst channels ∷ specs) level = All-head IsUnrated (Hold src dst channels) specs level
-rate-unrated (Linear src dst channels ∷ specs) level = All-head IsUnrated (Linear src dst channels) specs level
-rate-unrated (Poly src dst channels table taps ∷ specs) level = All-head IsUnrated (Poly src dst channels table taps) specs level
-rate-unrated (Volume layout ∷ specs) level = rate-unrated specs (All-tail IsUnrated (Volume layout) specs level)
-rate-unrated (Depth bits channels ∷ specs) level = rate-unrated specs (All-tail IsUnrated (Depth bits channels) specs level)
-rate-unrated (Eq channels sections ∷ specs) level = rate-unrated specs (All-tail IsUnrated (Eq channels sections) specs level)
-
--- and have given as many frames as they have eaten
-stages-level : (keeps : Spec → Kept) (tables : Filters) (specs : List Spec) (x : List Frame) (given : ℕ) → All IsUnrated specs → StagesStand keeps tables specs x given → length x ≡ given
-stages-level keeps tables [] x given level h = h
-stages-level keeps tables (spec ∷ specs) x given level h =
-    given-unchanged spec tables (keeps spec) x (length h.0) (All-head IsUnrated spec specs level) h.1
-    ∙ stages-level keeps tables specs h.0 given (All-tail IsUnrated spec specs level) h.3
 
 -- ---- the first stage
 
 -- what the first stage does with a block, and what it leaves to the others
 record HeadGoes (keeps : Spec → Kept) (tables : Filters) (gain : Gain) (want : ℕ) (spec : Spec) (specs : List Spec) (x middle input : List Frame) (before m : ℕ) : Type 0 where
   goes : Continues spec tables gain x (length middle) input (asked spec want (length input)) (turn_in keeps tables gain want spec input)
-  eaten : (turn_in keeps tables gain want spec input).eaten ≡ length input
-  asks : Asks (rate_among specs) (length middle) before (length (turn_in keeps tables gain want spec input).frames) want m
-  one : HaveOneRate specs
+  far : HeadFar keeps tables gain want spec specs (length x) (length middle) input before m
 
--- a stage that keeps the rate gives all frames that it is offered
-head-level : (keeps : Spec → Kept) (tables : Filters) (gain : Gain) (want : ℕ) (spec : Spec) (specs : List Spec) (x middle input : List Frame) (before m : ℕ) → IsSpec spec → IsUnrated spec
-    → asked spec want (length input) ≡ length input → StandsFor spec tables (keeps spec) x (length middle) → HaveChannels (channels_in spec) input → HaveOneRate specs
-    → Asks (rate_among specs) (length x) before (length input) want m → HeadGoes keeps tables gain want spec specs x middle input before m
-head-level keeps tables gain want spec specs x middle input before m is level wanted stands have one asks =
-    let turned = turn_in keeps tables gain want spec input in
-    let o = length input in
-    let goes = turn-continues spec (keeps spec) tables gain x input (length middle) (asked spec want o) is stands have in
-    let same = given-unchanged spec tables (keeps spec) x (length middle) level stands in
-    let all = ap (λ r. need r (length middle + asked spec want o)) level ∙ need-unchanged (length middle + asked spec want o) in
-    let fits = ap (λ r. can r (length x + o)) level ∙ can-unchanged (length x + o) in
-    let eaten : turned.eaten ≡ o = omega (arith, goes.eaten, all, same, wanted) in
-    let count : length turned.frames ≡ o = omega (arith, goes.count, goes.given, fits, same, wanted) in
-    record { goes = goes; eaten = eaten; asks = rw (← same, count) asks; one = one }
-
--- a stage that changes the rate gives what is wanted
-head-rated : (keeps : Spec → Kept) (tables : Filters) (gain : Gain) (want : ℕ) (spec : Spec) (specs : List Spec) (x middle input : List Frame) (before m : ℕ) → IsSpec spec → All IsUnrated specs
-    → asked spec want (length input) ≡ want → StandsFor spec tables (keeps spec) x (length middle) → StagesStand keeps tables specs middle before → HaveChannels (channels_in spec) input
-    → Asks (rate_of spec) (length x) before (length input) want m → HeadGoes keeps tables gain want spec specs x middle input before m
-head-rated keeps tables gain want spec specs x middle input before m is level wanted stands rest have asks =
-    let turned = turn_in keeps tables gain want spec input in
-    let o = length input in
-    let goes = turn-continues spec (keeps spec) tables gain x input (length middle) (asked spec want o) is stands have in
-    let same = stages-level keeps tables specs middle before level rest in
-    let more : length middle + asked spec want o ≡ before + want = omega (arith, same, wanted) in
-    let eaten : turned.eaten ≡ o = omega (arith, goes.eaten, ap (need (rate_of spec)) more, asks.all) in
-    let gives : turned.given ≡ m = omega (arith, goes.given, same, wanted, asks.gives) in
-    let count : length turned.frames ≡ m = goes.count ∙ gives in
-    let within : m ≤ want = omega (arith, asks.gives) in
-    record {
-      goes = goes;
-      eaten = eaten;
-      asks = rw (rate-unrated specs level, same, count) (record {
-        all = omega (arith, within, need-unchanged (before + want));
-        gives = omega (arith, within, can-unchanged (before + m));
-      });
-      one = one-rate-unrated specs level;
-    }
-
-head-goes : (keeps : Spec → Kept) (tables : Filters) (gain : Gain) (want : ℕ) (spec : Spec) (specs : List Spec) (x middle input : List Frame) (before m : ℕ) → IsSpec spec → HaveOneRate (spec ∷ specs)
+head-goes : (keeps : Spec → Kept) (tables : Filters) (gain : Gain) (want : ℕ) (spec : Spec) (specs : List Spec) (x middle input : List Frame) (before m : ℕ) → All IsSpec (spec ∷ specs) → HaveOneRate (spec ∷ specs)
     → StandsFor spec tables (keeps spec) x (length middle) → StagesStand keeps tables specs middle before → HaveChannels (channels_in spec) input
     → Asks (rate_among (spec ∷ specs)) (length x) before (length input) want m → HeadGoes keeps tables gain want spec specs x middle input before m
-head-goes keeps tables gain want (Matrix from to) specs x middle input before m is one stands rest have asks =
-    head-level keeps tables gain want (Matrix from to) specs x middle input before m is refl refl stands have one asks
-head-goes keeps tables gain want (Hold src dst channels) specs x middle input before m is one stands rest have asks =
-    head-rated keeps tables gain want (Hold src dst channels) specs x middle input before m is one refl stands rest have asks
-head-goes keeps tables gain want (Linear src dst channels) specs x middle input before m is one stands rest have asks =
-    head-rated keeps tables gain want (Linear src dst channels) specs x middle input before m is one refl stands rest have asks
-head-goes keeps tables gain want (Poly src dst channels table taps) specs x middle input before m is one stands rest have asks =
-    head-rated keeps tables gain want (Poly src dst channels table taps) specs x middle input before m is one refl stands rest have asks
-head-goes keeps tables gain want (Volume layout) specs x middle input before m is one stands rest have asks =
-    head-level keeps tables gain want (Volume layout) specs x middle input before m is refl refl stands have one asks
-head-goes keeps tables gain want (Depth bits channels) specs x middle input before m is one stands rest have asks =
-    head-level keeps tables gain want (Depth bits channels) specs x middle input before m is refl refl stands have one asks
-head-goes keeps tables gain want (Eq channels sections) specs x middle input before m is one stands rest have asks =
-    head-level keeps tables gain want (Eq channels sections) specs x middle input before m is refl refl stands have one asks
+head-goes keeps tables gain want spec specs x middle input before m limits one stands rest have asks =
+    let is = All-head IsSpec spec specs limits in
+    record {
+      goes = turn-continues spec (keeps spec) tables gain x input (length middle) (asked spec want (length input)) is stands have;
+      far = head-far keeps tables gain want spec specs (length x) (length middle) input before m is one (stands-far spec tables (keeps spec) x (length middle) is stands)
+          (stages-far keeps tables specs middle before (All-tail IsSpec spec specs limits) rest) have asks;
+    }
 
 -- what it stands for then, and what it has given
 head-given : (keeps : Spec → Kept) (tables : Filters) (gain : Gain) (want : ℕ) (spec : Spec) (specs : List Spec) (x middle input : List Frame) (before m : ℕ) → IsSpec spec
@@ -133,7 +56,7 @@ head-given : (keeps : Spec → Kept) (tables : Filters) (gain : Gain) (want : �
     → HasGiven spec tables (x ++ input) (middle ++ (turn_in keeps tables gain want spec input).frames)
 head-given keeps tables gain want spec specs x middle input before m is stands has h =
     let turned = turn_in keeps tables gain want spec input in
-    let whole : take turned.eaten input ≡ input = take_all turned.eaten input (omega (arith, h.eaten)) in
+    let whole : take turned.eaten input ≡ input = take_all turned.eaten input (omega (arith, h.far.eaten)) in
     rw whole at (given-grows spec (keeps spec) tables gain x input middle (asked spec want (length input)) turned is stands has h.goes)
 
 head-stands : (keeps : Spec → Kept) (tables : Filters) (gain : Gain) (want : ℕ) (spec : Spec) (specs : List Spec) (x middle input : List Frame) (before m : ℕ) (kept : Kept)
@@ -141,7 +64,7 @@ head-stands : (keeps : Spec → Kept) (tables : Filters) (gain : Gain) (want : �
     → StandsFor spec tables kept (x ++ input) (length (middle ++ (turn_in keeps tables gain want spec input).frames))
 head-stands keeps tables gain want spec specs x middle input before m kept h same =
     let turned = turn_in keeps tables gain want spec input in
-    let whole : take turned.eaten input ≡ input = take_all turned.eaten input (omega (arith, h.eaten)) in
+    let whole : take turned.eaten input ≡ input = take_all turned.eaten input (omega (arith, h.far.eaten)) in
     let long : length middle + turned.given ≡ length (middle ++ turned.frames) = omega (arith, length-append middle turned.frames, h.goes.count) in
     rw (same, ← long) (rw whole at h.goes.stands)
 
@@ -158,8 +81,8 @@ stages-fed keeps now tables gain want [] c d x input before m limits one follow 
 stages-fed keeps now tables gain want (spec ∷ specs) c d x input before m limits one follow h have asks fed =
     let is = All-head IsSpec spec specs limits in
     let turned = turn_in keeps tables gain want spec input in
-    let head = head-goes keeps tables gain want spec specs x h.0 input before m is one h.1 h.3 (rw follow.0 have) asks in
-    let rest = stages-fed keeps now tables gain want specs (channels_out spec) d h.0 turned.frames before m (All-tail IsSpec spec specs limits) head.one follow.1 h.3 head.goes.channels head.asks fed.1 in (
+    let head = head-goes keeps tables gain want spec specs x h.0 input before m limits one h.1 h.3 (rw follow.0 have) asks in
+    let rest = stages-fed keeps now tables gain want specs (channels_out spec) d h.0 turned.frames before m (All-tail IsSpec spec specs limits) head.far.one follow.1 h.3 head.goes.channels head.far.asks fed.1 in (
       (
         h.0 ++ turned.frames,
         head-stands keeps tables gain want spec specs x h.0 input before m (now spec) head fed.0,
@@ -226,12 +149,12 @@ heard-early keeps tables gain want spec specs x middle input before m fixed limi
         ≡ through tables gain specs (all_outputs spec tables gain (stream_of (channels_in spec) (x ++ input))) (pos (before + k))
     heard k below =
         let ratio = ratio-among specs limits in
-        let asks = h.asks in
+        let asks = h.far.asks in
         let long = length-append middle (turn_in keeps tables gain want spec input).frames in
         let allowed : before + m ≤ can (rate_among specs) (length given) = omega (arith, asks.gives, long, ap (can (rate_among specs)) long) in
         let enough = (can-greatest (rate_among specs) ratio.src ratio.dst (before + m) (length given)).1 allowed in
         through-local tables gain specs (stream_of (channels_out spec) given) (all_outputs spec tables gain (stream_of (channels_in spec) (x ++ input))) (before + m) limits
-        (λ place within. given-stream spec tables gain (x ++ input) given place fixed has (omega (arith, ints, need_through-rate specs (before + m) h.one, enough)))
+        (λ place within. given-stream spec tables gain (x ++ input) given place fixed has (omega (arith, ints, need_through-rate specs (before + m) h.far.one, enough)))
         (pos (before + k)) (omega (arith, ints))
 
 -- the volume itself
@@ -247,8 +170,8 @@ heard-late keeps tables gain want spec specs x middle input before m limits leve
         ≡ through tables gain specs (all_outputs spec tables gain (stream_of (channels_in spec) (x ++ input))) (pos (before + k))
     heard k below =
         let d = silence (channels_out spec) in
-        let whole : take turned.eaten input ≡ input = take_all turned.eaten input (omega (arith, h.eaten)) in
-        let asks = subst (λ r. Asks r (length middle) before (length turned.frames) want m) (rate-unrated specs (All-weaker TurnsEach IsUnrated (λ s each. each.unrated) specs level)) h.asks in
+        let whole : take turned.eaten input ≡ input = take_all turned.eaten input (omega (arith, h.far.eaten)) in
+        let asks = subst (λ r. Asks r (length middle) before (length turned.frames) want m) (rate-unrated specs (All-weaker TurnsEach IsUnrated (λ s each. each.unrated) specs level)) h.far.asks in
         let count = level-asks (length middle) (length turned.frames) want m (rw (← same) at asks) in
         through-point tables gain specs (stream_of (channels_out spec) (middle ++ turned.frames)) (all_outputs spec tables gain (stream_of (channels_in spec) (x ++ input))) (before + k) limits level
         (ap (λ n. get_or (middle ++ turned.frames) (n + k) d) (sym same)
@@ -269,7 +192,7 @@ heard-by keeps tables gain want (Linear src dst channels) specs x middle input b
 heard-by keeps tables gain want (Poly src dst channels table taps) specs x middle input before m limits late rest has h =
     heard-early keeps tables gain want (Poly src dst channels table taps) specs x middle input before m (λ (same : kinds.Poly ≡ kinds.Volume). cc) limits has h
 heard-by keeps tables gain want (Volume layout) specs x middle input before m limits late rest has h =
-    heard-late keeps tables gain want (Volume layout) specs x middle input before m limits late (stages-level keeps tables specs middle before (All-weaker TurnsEach IsUnrated (λ s each. each.unrated) specs late) rest) h
+    heard-late keeps tables gain want (Volume layout) specs x middle input before m limits late (stages-level keeps tables specs (length middle) before (All-weaker TurnsEach IsUnrated (λ s each. each.unrated) specs late) (stages-far keeps tables specs middle before limits rest)) h
 heard-by keeps tables gain want (Depth bits channels) specs x middle input before m limits late rest has h =
     heard-early keeps tables gain want (Depth bits channels) specs x middle input before m (λ (same : kinds.Depth ≡ kinds.Volume). cc) limits has h
 heard-by keeps tables gain want (Eq channels sections) specs x middle input before m limits late rest has h =
@@ -307,10 +230,10 @@ comes-out keeps tables gain want (spec ∷ specs) c d x input before m limits on
     let is = All-head IsSpec spec specs limits in
     let rest = All-tail IsSpec spec specs limits in
     let turned = turn_in keeps tables gain want spec input in
-    let head = head-goes keeps tables gain want spec specs x h.0 input before m is one h.1 h.3 (rw follow.0 have) asks in
+    let head = head-goes keeps tables gain want spec specs x h.0 input before m limits one h.1 h.3 (rw follow.0 have) asks in
     let has = head-given keeps tables gain want spec specs x h.0 input before m is h.1 h.2 head in
     let next = late-tail spec specs late in
     let heard = heard-by keeps tables gain want spec specs x h.0 input before m rest late h.3 has head in
-    comes-out keeps tables gain want specs (channels_out spec) d h.0 turned.frames before m rest head.one next follow.1 h.3 head.goes.channels head.asks k below
+    comes-out keeps tables gain want specs (channels_out spec) d h.0 turned.frames before m rest head.far.one next follow.1 h.3 head.goes.channels head.far.asks k below
     ∙ heard.heard k below
     ∙ ap (λ n. through tables gain specs (all_outputs spec tables gain (stream_of n (x ++ input))) (pos (before + k))) follow.0

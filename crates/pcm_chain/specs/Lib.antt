@@ -3,6 +3,7 @@ pub mod Boxes
 pub mod Counts
 pub mod Feeds
 pub mod Chains
+pub mod Far
 pub mod Pulls
 pub mod Pushes
 pub mod Gives

@@ -1,5 +1,6 @@
 -- What a pull eats and gives.
-use Rattle.std.specs.Prelude.{◌≡◌, ◌<◌, ◌≤◌, ℕ, ◌+◌, ◌-◌, ◌*◌, min, max, ℤ, Bool, IsTrue, List, [], ◌++◌, length, take}
+use Rattle.std.specs.Prelude.{◌≡◌, ◌<◌, ◌≤◌, ℕ, ◌+◌, ◌-◌, ◌*◌, min, max, ℤ, Bool, IsTrue, List, [], ◌++◌, length, take, All}
+use Rattle.pcm_num.specs.Limit.{FitsBits}
 use Rattle.pcm_format.specs.declared.format.Format.{Format}
 use Rattle.pcm_format.specs.Frames.{Frame}
 use Rattle.pcm_format.specs.Layouts.{channels_of}
@@ -21,6 +22,7 @@ use Rattle.pcm_chain.specs.declared.chain.Pulled.{Pulled}
 use Rattle.pcm_chain.specs.Bits.{bits_left}
 use Rattle.pcm_chain.specs.Chains.{plan_in, AreFitted, ChainStands, StaysFitted}
 use Rattle.pcm_chain.specs.Counts.{allowed_in_all}
+use Rattle.pcm_chain.specs.Far.{ChainIsSoFar}
 use Rattle.pcm_chain.specs.Rings.{taken_bytes, without_bytes}
 
 -- the whole frames that wait in a ring, in a plan's layout and a format
@@ -45,6 +47,22 @@ pub record PullsAsFar (rate : Rate) (ended : Bool) (want n waiting before : ℕ)
     : Type 0 where
   pub given : pulled.given ≡ min want (allowed_in_all ended rate (n + waiting) - before)
   pub eaten : n + pulled.eaten ≡ max n (min (n + waiting) (need rate (before + want)))
+
+-- how far a chain is after a pull where `waiting` frames waited: silence was eaten only where nothing more comes and all
+-- that waited was eaten
+pub record IsFarBehind {B : Type 0} (kept : B → Kept) (tables : Filters) (ended : Bool)
+    (waiting : ℕ) (chain : ChainOf B) (n before : ℕ) (pulled : Pulled) : Type 0 where
+  pub zeros : ℕ
+  pub far : ChainIsSoFar kept tables chain (n + pulled.eaten) zeros (before + pulled.given)
+  pub ends : 0 < zeros → IsTrue ended × (pulled.eaten ≡ waiting)
+
+-- What a pull does to a chain that has eaten n frames and given `before`, whatever these were: it goes as far
+-- as the counts say, and the frames given are of as many bits as its plan leaves.
+pub record GoesFar {B : Type 0} (kept : B → Kept) (tables : Filters) (ended : Bool) (want waiting : ℕ)
+    (old new : ChainOf B) (n before : ℕ) (pulled : Pulled) (out : List ℤ) : Type 0 where
+  pub far : PullsAsFar (rate_in_plan (plan_in old)) ended want n waiting before pulled
+  pub bits : All (FitsBits (bits_left (plan_in old).stages)) (take (pulled.given * channels_of (plan_in old).target) out)
+  pub behind : IsFarBehind kept tables ended waiting new n before pulled
 
 -- where a chain stands after a pull: silence was eaten only where nothing more comes and all that waited was eaten
 pub record StandsBehind {B : Type 0} (kept : B → Kept) (tables : Filters) (ended : Bool)
@@ -71,7 +89,16 @@ pub record LeavesBehind {B : Type 0} (kind : B → Kind) (kept : B → Kept) (fo
   pub most : pulled.given ≤ want
   pub ring : ring_new ≡ without_bytes (taken_bytes (plan_in old) format pulled.eaten) ring_old
 
--- a pull does that, whatever the frames x and `before`, where silence was eaten only past the end
+-- a pull does that, however far the chain is, where silence was eaten only past the end
+abbrev pub GoesOnFar : {B : Type 0} → (B → Kept) → Filters → Bool → ℕ → Format → Ring
+    → ChainOf B → ChainOf B → Pulled → List ℤ → Type 0
+GoesOnFar kept tables ended want format ring old new pulled out =
+    (n zeros before : ℕ) → ChainIsSoFar kept tables old n zeros before
+    → IsPastTheEnd ended zeros (waiting_frames (plan_in old) format ring.bytes)
+    → GoesFar kept tables ended want (length (waiting_frames (plan_in old) format ring.bytes))
+    old new n before pulled out
+
+-- and the frames that it gives, whatever the frames x and `before`, where silence was eaten only past the end
 abbrev pub PullsOn : {B : Type 0} → (B → Kept) → Filters → Gain → Bool → ℕ → Format → Ring
     → ChainOf B → ChainOf B → Pulled → List ℤ → List ℤ → Type 0
 PullsOn kept tables gain ended want format ring old new pulled out_old out_new =

@@ -9,13 +9,15 @@ use Rattle.pcm_feeder.specs.declared.kind.Kind.{Kind}
 use Rattle.pcm_feeder.specs.Filters.{Filters}
 use Rattle.pcm_feeder.specs.Kept.{Kept}
 use Rattle.pcm_feeder.specs.Streams.{frames_of}
-use Rattle.pcm_plan.specs.Fits.{HaveBits, HaveTables}
+use Rattle.pcm_plan.specs.Fits.{HaveTables}
 use Rattle.pcm_plan.specs.Plans.{PlanSeen, rate_in_plan}
 use Rattle.pcm_plan.specs.Through.{recs}
 use Rattle.pcm_ring.specs.Ring.{Ring, free_bytes}
 use Rattle.pcm_chain.specs.declared.chain.ChainOf.{ChainOf}
 use Rattle.pcm_chain.specs.declared.chain.Pushed.{Pushed}
+use Rattle.pcm_chain.specs.Bits.{bits_left}
 use Rattle.pcm_chain.specs.Chains.{plan_in, ChainStands, IsOfKinds}
+use Rattle.pcm_chain.specs.Far.{ChainIsSoFar}
 
 -- A chain that records has eaten the frames x, with no silence after them, and has given all outputs
 -- that they allow.
@@ -23,32 +25,32 @@ abbrev pub HasRecorded : {B : Type 0} → (B → Kept) → Filters → ChainOf B
 HasRecorded kept tables chain x =
     ChainStands kept tables chain x 0 (can (rate_in_plan (plan_in chain)) (length x))
 
--- a chain has recorded some frames of 32 bits
-pub record HasRecordedSome {B : Type 0} (kept : B → Kept) (tables : Filters) (chain : ChainOf B)
-    : Type 0 where
-  pub frames : List Frame
-  pub bits : HaveBits 32 frames
-  pub records : HasRecorded kept tables chain frames
+-- the same by the counts alone: it has eaten so many frames, whatever they were
+abbrev pub HasRecordedFar : {B : Type 0} → (B → Kept) → Filters → ChainOf B → ℕ → Type 0
+HasRecordedFar kept tables chain eaten =
+    ChainIsSoFar kept tables chain eaten 0 (can (rate_in_plan (plan_in chain)) eaten)
 
--- what a plan without a volume makes of frames of 32 bits has the bits of a format
-abbrev pub GivesBitsOf : Format → PlanSeen → Filters → Type 0
-GivesBitsOf format plan tables =
-    (frames : List Frame) (from count : ℕ) → HaveBits 32 frames
-    → HaveBits (bits_of format) (recs plan tables frames from count)
-
--- more can be recorded: some frames were, the stages have their tables, and what they make has the bits of a format
+-- more can be recorded: some frames were, the stages have their tables, and what comes out of them has the bits of a format
 pub record CanRecord {B : Type 0} (kept : B → Kept) (tables : Filters) (format : Format) (chain : ChainOf B)
     : Type 0 where
-  pub records : HasRecordedSome kept tables chain
+  pub eaten : ℕ
+  pub records : HasRecordedFar kept tables chain eaten
   pub filters : HaveTables (plan_in chain).stages tables
-  pub bits : GivesBitsOf format (plan_in chain) tables
+  pub bits : bits_left (plan_in chain).stages ≡ bits_of format
 
--- a chain goes on by its plan, with each box in its place, and has recorded some frames
-pub record StaysRecording {B : Type 0} (kind : B → Kind) (kept : B → Kept) (tables : Filters)
-    (old new : ChainOf B) : Type 0 where
+-- What a push of n frames does to a chain that has recorded `eaten` frames, whatever these were: all are eaten, and all frames
+-- come that the plan allows by then.
+pub record PushesFar {B : Type 0} (kept : B → Kept) (tables : Filters) (n : ℕ) (old new : ChainOf B)
+    (pushed : Pushed) (eaten : ℕ) : Type 0 where
+  pub came : pushed.came ≡ can (rate_in_plan (plan_in old)) (eaten + n) - can (rate_in_plan (plan_in old)) eaten
+  pub records : HasRecordedFar kept tables new (eaten + n)
+
+-- a chain goes on by its plan, with each box in its place, and has recorded n frames more
+pub record StaysRecording {B : Type 0} (kind : B → Kind) (kept : B → Kept) (tables : Filters) (n : ℕ)
+    (old new : ChainOf B) (pushed : Pushed) : Type 0 where
   pub plan : plan_in new ≡ plan_in old
   pub kinds : IsOfKinds kind old → IsOfKinds kind new
-  pub records : HasRecordedSome kept tables new
+  pub far : (eaten : ℕ) → HasRecordedFar kept tables old eaten → PushesFar kept tables n old new pushed eaten
 
 -- how many frames of a plan's target have room in a ring, in a format
 abbrev pub room_for : PlanSeen → Format → Ring → ℕ

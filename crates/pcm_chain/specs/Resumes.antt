@@ -6,6 +6,7 @@ use Rattle.pcm_feeder.specs.Filters.{Filters}
 use Rattle.pcm_feeder.specs.Kept.{Kept}
 use Rattle.pcm_chain.specs.declared.chain.ChainOf.{ChainOf}
 use Rattle.pcm_chain.specs.Chains.{marks_in, plan_in, AreFitted, ChainStands, IsOfKinds}
+use Rattle.pcm_chain.specs.Far.{ChainIsSoFar}
 use Rattle.pcm_chain.specs.Gives.{GivesExactly}
 use Rattle.pcm_chain.specs.Pushes.{HasRecorded}
 
@@ -13,6 +14,11 @@ use Rattle.pcm_chain.specs.Pushes.{HasRecorded}
 abbrev pub StandsAs : {B : Type 0} → (B → Kept) → ChainOf B → ChainOf B → Type 0
 StandsAs kept other chain = (tables : Filters) (x : List Frame) (zeros given : ℕ)
     → ChainStands kept tables other x zeros given → ChainStands kept tables chain x zeros given
+
+-- however far a chain is, another is as far
+abbrev pub IsAsFar : {B : Type 0} → (B → Kept) → ChainOf B → ChainOf B → Type 0
+IsAsFar kept other chain = (tables : Filters) (eaten zeros given : ℕ)
+    → ChainIsSoFar kept tables other eaten zeros given → ChainIsSoFar kept tables chain eaten zeros given
 
 -- A chain goes on where another one is, by its plan, with each box in its place: it stands for the
 -- same frames, has recorded the same, and has eaten as few.
@@ -22,6 +28,7 @@ pub record Resumes {B : Type 0} (kind : B → Kind) (kept : B → Kept) (mark : 
   pub kinds : IsOfKinds kind new
   pub marks : marks_in mark new ≡ marks_in mark old
   pub fitted : AreFitted kept new
+  pub far : IsAsFar kept other new
   pub stands : StandsAs kept other new
   pub records : (tables : Filters) (x : List Frame)
       → HasRecorded kept tables other x → HasRecorded kept tables new x

@@ -57,8 +57,8 @@ impl<B: Feeder> ChainOf<B> {
     ghost use Rattle.pcm_plan.specs.Fits.{HaveBits, HaveTables, IsPlan};
     ghost use Rattle.pcm_chain.specs.Chains.{boxes_in, counts_in, marks_in, plan_in, AreFitted, IsOfKinds, ChainStands, StaysFitted};
     ghost use Rattle.pcm_chain.specs.Counts.{MakeABlock, AllowABlock};
-    ghost use Rattle.pcm_chain.specs.Gives.{filling_frames, CanGive, GivesABlock, GivesExactly, GivesOn};
-    ghost use Rattle.pcm_chain.specs.Pulls.{waiting_frames, CanPull, LeavesBehind, PullsOn};
+    ghost use Rattle.pcm_chain.specs.Gives.{filling_frames, CanGive, GivesABlock, GivesABlockFar, GivesExactly, GivesOn, GivesOnFar};
+    ghost use Rattle.pcm_chain.specs.Pulls.{waiting_frames, CanPull, GoesOnFar, LeavesBehind, PullsOn};
     ghost use Rattle.pcm_chain.specs.Pushes.{pushed_frames, room_for, CanRecord, HasRecorded, PushesOn, StaysRecording};
     ghost use Rattle.pcm_chain.specs.Resumes.{Resumes};
     ghost use Rattle.pcm_chain.specs.Rings.{put_bytes, GrowsBy};
@@ -154,6 +154,8 @@ impl<B: Feeder> ChainOf<B> {
         requires { CanPull B.kept tables.now gain self.old want (length out.old) }
         ensures leaves { LeavesBehind B.kind B.kept format want
             self.old self.new result ring.old ring.new }
+        ensures far { GoesOnFar B.kept tables.now ended want format ring.old
+            self.old self.new result out.new }
         ensures pulls { PullsOn B.kept tables.now gain ended want format ring.old
             self.old self.new result out.old out.new }
     {
@@ -194,6 +196,8 @@ impl<B: Feeder> ChainOf<B> {
         ensures leaves { LeavesBehind B.kind B.kept format want
             self.old self.new result ring.old ring.new }
         ensures there { result.eaten ≤ waiting }
+        ensures far { GoesOnFar B.kept tables.now ended want format ring.old
+            self.old self.new result out.new }
         ensures pulls { PullsOn B.kept tables.now gain ended want format ring.old
             self.old self.new result out.old out.new }
     {
@@ -236,7 +240,8 @@ impl<B: Feeder> ChainOf<B> {
         requires can { CanRecord B.kept tables.now format self.old }
         requires whole { length input.now % channels_of (plan_in self.old).source ≡ 0 }
         requires few { length (pushed_frames (plan_in self.old) input.now) ≤ PUSHED_FRAMES }
-        ensures stays { StaysRecording B.kind B.kept tables.now self.old self.new }
+        ensures stays { StaysRecording B.kind B.kept tables.now
+            (length (pushed_frames (plan_in self.old) input.now)) self.old self.new result }
         // The type of the samples keeps them within 32 bits.
         ensures fits { HaveBits 32 (pushed_frames (plan_in self.old) input.now) }
         ensures kept { result.kept ≡ min result.came (room_for (plan_in self.old) format ring.old) }
@@ -274,7 +279,7 @@ impl<B: Feeder> ChainOf<B> {
         requires whole { length input.now ≡ frames * channels_of (plan_in self.old).source }
         requires few { frames ≤ BLOCK_FRAMES }
         requires reach { AllowABlock (rate_in_plan (plan_in self.old)) (counts_in self.old) frames }
-        ensures stays { StaysRecording B.kind B.kept tables.now self.old self.new }
+        ensures stays { StaysRecording B.kind B.kept tables.now frames self.old self.new result }
         ensures fits { All (FitsBits 32) input.now }
         ensures most { result.came ≤ BLOCK_FRAMES }
         ensures kept { result.kept ≡ min result.came (room_for (plan_in self.old) format ring.old) }
@@ -317,6 +322,8 @@ impl<B: Feeder> ChainOf<B> {
         ensures stays { StaysFitted B.kind B.kept self.old self.new }
         // The type of the samples keeps them within 32 bits.
         ensures fits { HaveBits 32 (pushed_frames (plan_in self.old) input.now) }
+        ensures far { GivesOnFar B.kept tables.now input.now
+            (filling_frames (plan_in self.old) out.old) self.old self.new out.new }
         ensures gives { GivesOn B.kept tables.now input.now
             (filling_frames (plan_in self.old) out.old) self.old self.new out.new }
     {
@@ -351,6 +358,8 @@ impl<B: Feeder> ChainOf<B> {
         ensures there { result ≤ waiting }
         ensures fits { All (FitsBits 32)
             (take (result * channels_of (plan_in self.old).source) input.now) }
+        ensures far { GivesABlockFar B.kept tables.now want input.now
+            self.old self.new result out.new }
         ensures gives { GivesABlock B.kept tables.now want input.now
             self.old self.new result out.old out.new }
     {

@@ -35,8 +35,7 @@ use Rattle.pcm_chain.specs.Bits.{bits_left}
 use Rattle.pcm_chain.specs.Chains.{boxes_in, plan_in, ChainStands}
 use Rattle.pcm_chain.specs.Pulls.{waiting_frames, PullsAsFar, PullsOn}
 use Rattle.pcm_chain.specs.Rings.{taken_bytes, without_bytes}
-use Rattle.pcm_chain.proofs.Bits.{bits-played}
-use Rattle.pcm_chain.proofs.Pushing.{interleaved-bits}
+use Rattle.pcm_chain.proofs.Bits.{bits-played, interleaved-bits}
 use Rattle.pcm_chain.proofs.Waiting.{frames-waiting}
 use Rattle.pcm_desk.specs.declared.device.Device.{Device}
 use Rattle.pcm_desk.specs.declared.map_book.MapBook.{MapBook}

@@ -41,8 +41,7 @@ use Rattle.pcm_sound.proofs.DeviceLists.{frames-channels}
 use Rattle.pcm_sound.proofs.Stories.{IsSafeAt, safe-mixing}
 use Rattle.pcm_play.specs.declared.channel.PlayChannelOf.{PlayChannelOf}
 use Rattle.pcm_play.specs.Channels.{PlayStands, IsPlayPlanned, PlayMoves}
-use Rattle.pcm_chain.proofs.Bits.{bits-played}
-use Rattle.pcm_chain.proofs.Pushing.{interleaved-bits}
+use Rattle.pcm_chain.proofs.Bits.{bits-played, interleaved-bits}
 use Rattle.pcm_chain.proofs.Waiting.{frames-waiting}
 use Rattle.pcm_oss.specs.declared.event.Way.TheVariants.{Play}
 use Rattle.pcm_path.proofs.Paths.{front-written, planned-as}

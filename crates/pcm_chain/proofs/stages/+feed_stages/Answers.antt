@@ -9,7 +9,7 @@ use Rattle.pcm_feeder.specs.Turns.{Turn}
 use Rattle.pcm_chain.specs.Boxes.{kept_in}
 use Rattle.pcm_chain.specs.Feeds.{first_frames}
 use Rattle.pcm_chain.proofs.Feeding.{stages-cut, ask-on, block-room, given-front, feeds, gone-on, gone-last, gone-none, at-head}
-use Rattle.pcm_chain.proofs.Pushing.{frames_of-bits}
+use Rattle.pcm_chain.proofs.Bits.{frames_of-bits}
 use Rattle.pcm_chain.proofs.stages.+feed_stages.Goals as goal
 
 pub returns-then-is_empty-clause-gone : goal.returns-then-is_empty-clause-gone

@@ -1,4 +1,5 @@
 use Rattle.std.proofs.Common.{◌≡◌, ◌≤◌, ◌+◌, ◌-◌, ◌*◌, ◌/◌, ◌++◌, ℕ, ℤ, false, List, length, take, drop, All, refl, sym, ap, ◌∙◌, subst, arith}
+use Rattle.std.proofs.Math.Nat.{mul-le-mul_right}
 use Rattle.std.proofs.Math.Seq.{take-add}
 use Rattle.std.proofs.lemmas.Grind.{common_steps}
 use Rattle.std.proofs.lemmas.List.{take_all, length-append, length-drop, length-take-le}
@@ -14,12 +15,14 @@ use Rattle.pcm_plan.specs.Plans.{PlanSeen, rate_in_plan}
 use Rattle.pcm_plan.proofs.Fits.{ratio-in}
 use Rattle.pcm_chain.specs.Chains.{plan_in, ChainStands}
 use Rattle.pcm_chain.specs.Gives.{filling_frames}
-use Rattle.pcm_chain.specs.Pulls.{Pulls}
+use Rattle.pcm_chain.specs.Far.{ChainIsSoFar}
+use Rattle.pcm_chain.specs.Pulls.{GoesFar, Pulls, PullsAsFar}
 use Rattle.pcm_chain.specs.Pushes.{pushed_frames}
-use Rattle.pcm_chain.proofs.Giving.{pulls-give, rest-frames}
-use Rattle.pcm_chain.proofs.Pulling.{end-taken, goes-on, no-silence-behind, nothing-pulled, put-end}
-use Rattle.pcm_chain.proofs.Pushing.{frames_of-bits, whole-samples}
-use Rattle.pcm_chain.proofs.Standing.{stands-fitted}
+use Rattle.pcm_chain.proofs.Far.{far-fitted}
+use Rattle.pcm_chain.proofs.Giving.{all-eaten, pulls-give, pulls-give-far, rest-frames}
+use Rattle.pcm_chain.proofs.Pulling.{end-taken, goes-far, goes-on, no-silence-behind, no-silence-far, nothing-pulled, put-end, stays-far}
+use Rattle.pcm_chain.proofs.Bits.{frames_of-bits}
+use Rattle.pcm_chain.proofs.Pushing.{whole-samples}
 use Rattle.pcm_chain.proofs.chain.ChainOf.give.Goals as goal
 
 pub loop-asked-init : goal.loop-asked-init
@@ -42,9 +45,11 @@ loop-asked-init g c =
       samples = whole-samples (length samples) (channels_of plan.source) c.requires.whole ∙ ap (λ n. n * channels_of plan.source) frames;
       plan = refl;
       kinds = λ have. have;
-      fitted = stands-fitted g.B.Feeder.kept c.args.tables.now c.args.self.now can.frames 0 can.given can.gives.stands;
+      fitted = far-fitted g.B.Feeder.kept c.args.tables.now c.args.self.now can.eaten 0 can.given can.gives.far;
       fits = (let none : 0 * c.channels-source.result ≡ 0 = omega arith in subst (λ n. All (FitsBits 32) (take n samples)) (sym none)
           (All-nil (FitsBits 32)));
+      far = λ n given stands enough. stays-far g.B.Feeder.kept c.args.tables.now false (pushed_frames plan samples)
+          c.args.self.now n 0 given out stands (λ some. absurd (omega (arith, some)));
       pulls = λ x given stands enough. nothing-pulled g.B.Feeder.kept c.args.tables.now unity false (pushed_frames plan samples)
           c.args.self.now x 0 given out stands (λ some. absurd (omega (arith, some)));
     }
@@ -108,6 +113,33 @@ loop-asked-preserved g c =
           subst (All (FitsBits 32)) (sym (ap (λ k. take k samples) more ∙ take-add (e * size) (r * size) samples))
           (All-append (FitsBits 32) (take (e * size) samples) (take (r * size) (drop (e * size) samples)) h.fits
           (subst (All (FitsBits 32)) same c.give_block-eaten.ensures.fits)));
+      far = λ n given stands enough.
+          let target = channels_of plan.target in
+          let out = c.loop-asked.out in
+          let at : a * c.channels-target.result ≡ a * target = ap (λ m. a * m)
+          (c.channels-target.ensures ∙ ap channels_of c.target.ensures) in
+          let ends = put-end (a * c.channels-target.result) out c.give_block-eaten.new.out
+          ∙ ap (λ m. take m out ++ c.give_block-eaten.new.out) at in
+          let Goes : List Frame → Type 0 = λ list. (m before : ℕ) → ChainIsSoFar kept tables mid m 0 before
+          → need (rate_in_plan (plan_in mid)) (before + b) ≤ m + length list
+          → GoesFar kept tables false b (length list) mid new m before (record { given = b; eaten = r }) c.give_block-eaten.new.out in
+          let grown = need_grows (rate_in_plan plan) (given + a + b) (given + length c.args.out.now / c.channels-target.result)
+          (let ratio = ratio-in plan stands.fits in ratio.dst) (omega (arith, c.block-block.ensures.wanted, h.within)) in
+          let needed = ap (λ (p : PlanSeen). need (rate_in_plan p) (given + a + b)) h.plan in
+          let first = h.far n given stands enough in
+          let wide = mul-le-mul_right target h.within in
+          subst (λ list. GoesFar kept tables false (a + b) (length all) old new n given (record { given = a + b; eaten = e + r }) list) (sym ends)
+          (goes-far kept tables false a b all old mid new n given (record { given = a; eaten = e }) (record { given = b; eaten = r })
+          out c.give_block-eaten.new.out (record {
+            full = refl;
+            plan = h.plan;
+            long = omega (arith, wide, h.fills, c.loop-asked.auto.out);
+            is = stands.fits;
+            pulled = first;
+            next = λ behind past. subst Goes rest c.give_block-eaten.ensures.far (n + e) (given + a)
+                (no-silence-far kept tables (length all) mid n given (record { given = a; eaten = e }) first.behind)
+                (omega (arith, needed, grown, enough, left, within));
+          }));
       pulls = λ x given stands enough.
           let target = channels_of plan.target in
           let out = c.loop-asked.out in
@@ -154,18 +186,37 @@ returns-clause-fits g c =
     let samples = c.args.input.now in
     let source = channels_of plan.source in
     let want = length c.args.out.now / c.channels-target.result in
+    let ratio = ratio-in plan can.gives.far.fits in
     let layout : c.channels-source.result ≡ source = c.channels-source.ensures ∙ ap channels_of c.source.ensures in
     let all : c.loop-asked.asked ≡ want = omega (arith, h.within, c.loop-asked-test.false) in
-    let grown = need_grows rate can.given (can.given + want) (let ratio = ratio-in plan can.gives.stands.fits in ratio.dst) (omega arith) in
+    let grown = need_grows rate can.given (can.given + want) ratio.dst (omega arith) in
     let count = ap (λ n. need rate (can.given + n)) h.wanted in
-    let asked = ap (λ n. need rate (can.given + n)) all in
-    let far = (h.pulls can.frames can.given can.gives.stands (omega (arith, can.enough, can.gives.exact, count, grown))).far.eaten in
-    let every : c.loop-asked.eaten ≡ length samples /
-    c.channels-source.result = omega (arith, far, asked, can.enough, can.gives.exact, count, grown, h.count) in
+    let goes = h.far can.eaten can.given can.gives.far (omega (arith, can.enough, can.gives.exact, count, grown)) in
+    let far = subst (λ n. PullsAsFar rate false n can.eaten (length (pushed_frames plan samples)) can.given (record { given = n; eaten = c.loop-asked.eaten })) all goes.far in
+    let every = all-eaten rate want can.eaten (length (pushed_frames plan samples)) can.given (record { given = want; eaten = c.loop-asked.eaten }) ratio can.gives.exact
+    (omega (arith, can.enough, count)) far in
     let long = ap (λ n. c.loop-asked.eaten * n) layout in
     let whole : take (c.loop-asked.eaten * c.channels-source.result) samples ≡ samples =
-    take_all (c.loop-asked.eaten * c.channels-source.result) samples (omega (arith, h.samples, long, ap (λ n. n * source) every)) in
+    take_all (c.loop-asked.eaten * c.channels-source.result) samples (omega (arith, h.samples, long, ap (λ n. n * source) (every ∙ h.count))) in
     frames_of-bits 32 source samples (subst (All (FitsBits 32)) whole h.fits)
+
+pub returns-clause-far : goal.returns-clause-far
+returns-clause-far g c eaten given exactly enough =
+    let h = c.loop-asked.invariant in
+    let kept = g.B.Feeder.kept in
+    let plan = c.args.self.now.plan in
+    let rate = rate_in_plan plan in
+    let input = length (pushed_frames plan c.args.input.now) in
+    let count = filling_frames plan c.args.out.now in
+    let all : c.loop-asked.asked ≡ count = omega (arith, h.within, c.loop-asked-test.false, h.wanted) in
+    let grown = need_grows rate given (given + count) (let ratio = ratio-in plan exactly.far.fits in ratio.dst) (omega arith) in
+    let needed = ap (λ n. need rate (given + n)) h.wanted in
+    let Stops : ℕ → Type 0 = λ n. GoesFar kept c.args.tables.now false n input c.args.self.now c.loop-asked.self eaten given
+    (record { given = n; eaten = c.loop-asked.eaten }) c.loop-asked.out in
+    pulls-give-far kept c.args.tables.now count c.loop-asked.eaten input c.args.self.now c.loop-asked.self c.loop-asked.out
+    eaten given h.plan
+    (c.loop-asked.auto.out ∙ h.fills ∙ ap (λ n. n * channels_of plan.target) h.wanted) exactly enough
+    (subst Stops all (h.far eaten given exactly.far (omega (arith, enough, exactly.exact, needed, grown))))
 
 pub returns-clause-gives : goal.returns-clause-gives
 returns-clause-gives g c x given exactly enough =

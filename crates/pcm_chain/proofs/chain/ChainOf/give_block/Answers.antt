@@ -13,12 +13,16 @@ use Rattle.pcm_plan.specs.Fits.{HaveBits}
 use Rattle.pcm_chain.specs.Bits.{bits_left}
 use Rattle.pcm_chain.specs.Boxes.{kept_in}
 use Rattle.pcm_chain.specs.Feeds.{fed_through, AreFed}
+use Rattle.pcm_chain.specs.Chains.{boxes_in, counts_in, plan_in}
+use Rattle.pcm_chain.specs.declared.chain.ChainOf.{ChainOf}
 use Rattle.pcm_chain.specs.Pushes.{pushed_frames}
 use Rattle.pcm_chain.proofs.Counting.{part-within, in_time-after}
 use Rattle.pcm_chain.proofs.Feeding.{fed-fits}
-use Rattle.pcm_chain.proofs.Giving.{block-gives, frames-within, sure-silent}
+use Rattle.pcm_chain.proofs.Giving.{block-gives, block-gives-far, frames-within, sure-silent}
+use Rattle.pcm_chain.proofs.Pulling.{IsBlock}
 use Rattle.pcm_chain.proofs.Pushing.{copied-frames, parted-frames}
 use Rattle.pcm_chain.proofs.chain.ChainOf.give_block.Goals as goal
+use Rattle.pcm_chain.proofs.chain.ChainOf.give_block.Goals.{After-after-self}
 
 pub after-self-requires-clause-in_time : goal.after-self-requires-clause-in_time
 after-self-requires-clause-in_time g c =
@@ -61,8 +65,12 @@ returns-clause-fits g c =
     ∙ ap channels_of c.source.ensures in
     subst (λ n. All (FitsBits 32) (take (c.advance-advance.result.eaten * n) c.args.input.now)) layout c.copy.ensures.fits
 
-pub returns-clause-gives : goal.returns-clause-gives
-returns-clause-gives g c x given stands enough =
+-- the block, by the contracts of its calls
+is-block : (g : _) (c : After-after-self g) (new : ChainOf g.row.B.Denot) → plan_in new ≡ c.args.self.now.plan → boxes_in new ≡ c.feed_stages.new.boxes
+    → counts_in new ≡ c.after-self.result
+    → IsBlock g.B.Feeder.kept c.args.tables.now unity false c.args.want (pushed_frames c.args.self.now.plan c.args.input.now)
+    c.args.self.now new c.advance-advance.result c.args.out.now c.feed_stages.new.out
+is-block g c new plan_same boxes_same counts_same =
     let kept = g.B.Feeder.kept in
     let old = c.args.self.now in
     let plan = old.plan in
@@ -86,18 +94,28 @@ returns-clause-gives g c x given stands enough =
     ∙ ap (λ n. take advance.eaten waiting ++ replicate n (silence width)) (sym quiet) in
     let Fed : List Frame → Type 0 = λ list. AreFed (kept_in kept old.boxes) (kept_in kept c.feed_stages.new.boxes) c.args.tables.now unity
     c.args.want plan.stages list in
-    block-gives kept c.args.tables.now c.args.want waiting old _ advance c.args.out.now c.feed_stages.new.out x given (record {
-      plan = refl;
+    record {
+      plan = plan_same;
       bounded = old.bounded;
       goes = rw (c.rated_counts-counts.ensures.rate, c.rated_counts-counts.ensures.counts) at goes;
       within = within;
-      counts = rw (c.rated_counts-counts.ensures.rate, c.rated_counts-counts.ensures.counts) at c.after-self.ensures.stands;
+      counts = rw counts_same (rw (c.rated_counts-counts.ensures.rate, c.rated_counts-counts.ensures.counts) at c.after-self.ensures.stands);
       have = frames_of-channels width samples;
-      fed = subst Fed input_is (rw c.stages.ensures.value at c.feed_stages.ensures.gone.fed);
+      fed = rw boxes_same (subst Fed input_is (rw c.stages.ensures.value at c.feed_stages.ensures.gone.fed));
       bits = subst (λ list. HaveBits (bits_left plan.stages)
           (fed_through (kept_in kept old.boxes) c.args.tables.now unity c.args.want plan.stages list)) input_is
           (rw c.stages.ensures.value at c.feed_stages.ensures.gone.bits);
       out = (rw c.stages.ensures.value at c.feed_stages.ensures.gone.out)
           ∙ ap (λ list. written (fed_through (kept_in kept old.boxes) c.args.tables.now unity c.args.want plan.stages list) c.args.out.now)
           input_is;
-    }) stands enough
+    }
+
+pub returns-clause-far : goal.returns-clause-far
+returns-clause-far g c n given stands enough =
+    block-gives-far g.B.Feeder.kept c.args.tables.now c.args.want (pushed_frames c.args.self.now.plan c.args.input.now) c.args.self.now _ c.advance-advance.result
+    c.args.out.now c.feed_stages.new.out n given (is-block g c.before _ refl refl refl) stands enough
+
+pub returns-clause-gives : goal.returns-clause-gives
+returns-clause-gives g c x given stands enough =
+    block-gives g.B.Feeder.kept c.args.tables.now c.args.want (pushed_frames c.args.self.now.plan c.args.input.now) c.args.self.now _ c.advance-advance.result
+    c.args.out.now c.feed_stages.new.out x given (is-block g c.before _ refl refl refl) stands enough

@@ -1,4 +1,5 @@
 use Rattle.std.proofs.Common.{◌≡◌, ◌+◌, ◌*◌, ◌++◌, ℕ, ℤ, List, length, take, drop, refl, sym, ap, ◌∙◌, subst, arith}
+use Rattle.std.proofs.Math.Nat.{mul-le-mul_right}
 use Rattle.std.proofs.lemmas.List.{length-drop, drop-drop}
 use Rattle.std.proofs.lemmas.List.Elements.{All-append}
 use Rattle.pcm_format.specs.Formats.{bytes_of}
@@ -9,8 +10,9 @@ use Rattle.pcm_ring.specs.Ring.{Ring}
 use Rattle.pcm_feeder.proofs.Frames.{frames_of-channels}
 use Rattle.pcm_plan.specs.Plans.{PlanSeen}
 use Rattle.pcm_chain.specs.Chains.{plan_in, ChainStands}
-use Rattle.pcm_chain.specs.Pulls.{waiting_frames, IsPastTheEnd, Pulls}
-use Rattle.pcm_chain.proofs.Pulling.{nothing-pulled, put-end, end-taken, goes-on, falls-short}
+use Rattle.pcm_chain.specs.Far.{ChainIsSoFar}
+use Rattle.pcm_chain.specs.Pulls.{waiting_frames, IsPastTheEnd, GoesFar, Pulls}
+use Rattle.pcm_chain.proofs.Pulling.{stays-far, nothing-pulled, put-end, end-taken, goes-far, goes-on, falls-far, falls-short}
 use Rattle.pcm_chain.proofs.Waiting.{waiting-count, waiting-drop}
 use Rattle.pcm_chain.proofs.chain.ChainOf.pull.Goals as goal
 
@@ -29,6 +31,21 @@ returns-else-pulled-asked-clause-pulls g c x quiet before stands past =
     c.loop-asked.pulled c.args.out.now c.loop-asked.out stands.fits (omega (arith, h.most, c.if-pulled-asked.false)) h.within
     (h.pulls x quiet before stands past)
 
+pub returns-after-loop-asked-clause-far : goal.returns-after-loop-asked-clause-far
+returns-after-loop-asked-clause-far g c n quiet before far past =
+    let h = c.loop-asked.invariant in
+    let all : c.loop-asked.asked ≡ c.args.want = omega (arith, h.within, c.loop-asked-test.false) in
+    let goes = h.far n quiet before far past in
+    rw all at goes
+
+pub returns-else-pulled-asked-clause-far : goal.returns-else-pulled-asked-clause-far
+returns-else-pulled-asked-clause-far g c n quiet before far past =
+    let h = c.loop-asked.invariant in
+    falls-far g.B.Feeder.kept c.args.tables.now c.args.ended c.loop-asked.asked c.args.want
+    (length (waiting_frames c.args.self.now.plan c.args.format c.args.ring.now.bytes)) c.args.self.now c.loop-asked.self n before
+    c.loop-asked.pulled c.loop-asked.out far.fits (omega (arith, h.most, c.if-pulled-asked.false)) h.within
+    (h.far n quiet before far past)
+
 pub loop-asked-init : goal.loop-asked-init
 loop-asked-init g c =
     let plan = c.args.self.now.plan in
@@ -46,6 +63,8 @@ loop-asked-init g c =
       bytes = ap (λ n. drop n bytes) none;
       size = refl;
       room = refl;
+      far = λ n quiet before far past. stays-far g.B.Feeder.kept c.args.tables.now c.args.ended (waiting_frames plan c.args.format bytes)
+          c.args.self.now n quiet before c.args.out.now far past;
       pulls = λ x quiet before stands past. nothing-pulled g.B.Feeder.kept c.args.tables.now c.args.gain c.args.ended
           (waiting_frames plan c.args.format bytes) c.args.self.now x quiet before c.args.out.now stands past;
     }
@@ -87,6 +106,26 @@ loop-asked-preserved g c =
           ∙ ap (drop (more.eaten * size)) h.bytes ∙ drop-drop (more.eaten * size) (first.eaten * size) bytes ∙ ap (λ n. drop n bytes) place;
       size = ap (λ (ring : Ring). ring.size) c.pull_block-more.ensures.leaves.ring ∙ h.size;
       room = ap (λ (ring : Ring). ring.max) c.pull_block-more.ensures.leaves.ring ∙ h.room;
+      far = λ n quiet before stands past.
+          let k = c.loop-asked.asked in
+          let size = c.channels-channels.result in
+          let out = c.loop-asked.out in
+          let at : k * size ≡ k * channels_of plan.target = ap (λ m. k * m) (c.channels-channels.ensures ∙ ap channels_of c.target.ensures) in
+          let ends = put-end (k * size) out c.pull_block-more.new.out ∙ ap (λ m. take m out ++ c.pull_block-more.new.out) at in
+          let Goes : List Frame → Type 0 = λ list. (m silent given : ℕ) → ChainIsSoFar kept c.args.tables.now c.loop-asked.self m silent given
+          → IsPastTheEnd c.args.ended silent list → GoesFar kept c.args.tables.now c.args.ended c.block-block.result (length list)
+          c.loop-asked.self c.pull_block-more.new.self m given more c.pull_block-more.new.out in
+          subst (λ list. GoesFar kept c.args.tables.now c.args.ended (k + c.block-block.result) (length all) c.args.self.now
+          c.pull_block-more.new.self n before (record { given = first.given + more.given; eaten = first.eaten + more.eaten }) list) (sym ends)
+          (goes-far kept c.args.tables.now c.args.ended k c.block-block.result all c.args.self.now c.loop-asked.self c.pull_block-more.new.self
+          n before first more out c.pull_block-more.new.out (record {
+            full = c.if-pulled-asked.true;
+            plan = h.plan;
+            long = (let wanted = mul-le-mul_right (channels_of plan.target) h.within in omega (arith, wanted, c.requires.room, c.loop-asked.auto.out));
+            is = stands.fits;
+            pulled = h.far n quiet before stands past;
+            next = subst Goes rest c.pull_block-more.ensures.far (n + first.eaten) _ (before + first.given);
+          }));
       pulls = λ x quiet before stands past.
           let at : c.loop-asked.asked * c.channels-channels.result ≡ c.loop-asked.asked * channels_of plan.target = ap
           (λ n. c.loop-asked.asked * n) (c.channels-channels.ensures ∙ ap channels_of c.target.ensures) in

@@ -1,4 +1,4 @@
-use Rattle.std.proofs.Common.{◌≤◌, ◌*◌, List, ◌++◌, length, take, drop, replicate, refl, ap, ◌∙◌, subst, arith}
+use Rattle.std.proofs.Common.{◌≡◌, ◌≤◌, ◌*◌, List, ◌++◌, length, take, drop, replicate, refl, ap, ◌∙◌, subst, arith}
 use Rattle.std.proofs.Math.Nat.{mul_assoc}
 use Rattle.pcm_sequence.specs.Fixed.{fixed_items}
 use Rattle.pcm_format.specs.Formats.{bytes_of}
@@ -13,12 +13,15 @@ use Rattle.pcm_plan.specs.Fits.{HaveBits}
 use Rattle.pcm_chain.specs.Bits.{bits_left}
 use Rattle.pcm_chain.specs.Boxes.{kept_in}
 use Rattle.pcm_chain.specs.Feeds.{fed_through, AreFed}
+use Rattle.pcm_chain.specs.Chains.{boxes_in, counts_in, plan_in}
+use Rattle.pcm_chain.specs.declared.chain.ChainOf.{ChainOf}
 use Rattle.pcm_chain.specs.Pulls.{waiting_frames}
 use Rattle.pcm_chain.proofs.Counting.{part-within, goes-level, in_time-after}
 use Rattle.pcm_chain.proofs.Feeding.{fed-fits}
-use Rattle.pcm_chain.proofs.Pulling.{block-pulls}
+use Rattle.pcm_chain.proofs.Pulling.{IsBlock, block-far, block-pulls}
 use Rattle.pcm_chain.proofs.Waiting.{bytes-wait, loaded-frames}
 use Rattle.pcm_chain.proofs.chain.ChainOf.pull_block.Goals as goal
+use Rattle.pcm_chain.proofs.chain.ChainOf.pull_block.Goals.{After-after-self}
 
 pub feed_stages-requires-clause-level : goal.feed_stages-requires-clause-level
 feed_stages-requires-clause-level g c level =
@@ -72,8 +75,12 @@ returns-clause-leaves g c =
       ring = c.load.ensures.ring ∙ ap (λ k. let left : Ring = record c.args.ring.now { bytes = drop k bytes } in left) width;
     }
 
-pub returns-clause-pulls : goal.returns-clause-pulls
-returns-clause-pulls g c x quiet before stands past =
+-- the block, by the contracts of its calls
+is-block : (g : _) (c : After-after-self g) (new : ChainOf g.row.B.Denot) → plan_in new ≡ c.args.self.now.plan → boxes_in new ≡ c.feed_stages.new.boxes
+    → counts_in new ≡ c.after-self.result
+    → IsBlock g.B.Feeder.kept c.args.tables.now c.args.gain c.args.ended c.args.want (waiting_frames c.args.self.now.plan c.args.format c.args.ring.now.bytes)
+    c.args.self.now new c.advance-advance.result c.args.out.now c.feed_stages.new.out
+is-block g c new plan_same boxes_same counts_same =
     let kept = g.B.Feeder.kept in
     let plan = c.args.self.now.plan in
     let source = c.channels-source.result in
@@ -87,9 +94,8 @@ returns-clause-pulls g c x quiet before stands past =
     let input_is = input ∙ ap (λ n. take advance.eaten waiting ++ replicate advance.silent (silence n)) layout in
     let Fed : List Frame → Type 0 = λ list. AreFed (kept_in kept c.args.self.now.boxes) (kept_in kept c.feed_stages.new.boxes)
     c.args.tables.now c.args.gain c.args.want plan.stages list in
-    block-pulls kept c.args.tables.now c.args.gain c.args.ended c.args.want waiting c.args.self.now _ advance c.args.out.now
-    c.feed_stages.new.out x quiet before (record {
-      plan = refl;
+    record {
+      plan = plan_same;
       bounded = c.args.self.now.bounded;
       goes = rw (
         c.requires.waiting,
@@ -97,13 +103,24 @@ returns-clause-pulls g c x quiet before stands past =
         c.rated_counts-counts.ensures.counts,
       ) at c.advance-advance.ensures.goes;
       within = within;
-      counts = rw (c.rated_counts-counts.ensures.rate, c.rated_counts-counts.ensures.counts) at c.after-self.ensures.stands;
+      counts = rw counts_same (rw (c.rated_counts-counts.ensures.rate, c.rated_counts-counts.ensures.counts) at c.after-self.ensures.stands);
       have = frames_of-channels (channels_of plan.source) (samples c.args.format bytes);
-      fed = subst Fed input_is (rw c.stages.ensures.value at c.feed_stages.ensures.gone.fed);
+      fed = rw boxes_same (subst Fed input_is (rw c.stages.ensures.value at c.feed_stages.ensures.gone.fed));
       bits = subst (λ list. HaveBits (bits_left plan.stages)
           (fed_through (kept_in kept c.args.self.now.boxes) c.args.tables.now c.args.gain c.args.want plan.stages list)) input_is
           (rw c.stages.ensures.value at c.feed_stages.ensures.gone.bits);
       out = (rw c.stages.ensures.value at c.feed_stages.ensures.gone.out)
           ∙ ap (λ list. written (fed_through (kept_in kept c.args.self.now.boxes) c.args.tables.now c.args.gain c.args.want plan.stages
           list) c.args.out.now) input_is;
-    }) stands past
+    }
+
+pub returns-clause-far : goal.returns-clause-far
+returns-clause-far g c n quiet before stands past =
+    let far = block-far g.B.Feeder.kept c.args.tables.now c.args.gain c.args.ended c.args.want (waiting_frames c.args.self.now.plan c.args.format c.args.ring.now.bytes)
+    c.args.self.now _ c.advance-advance.result c.args.out.now c.feed_stages.new.out n quiet before (is-block g c.before _ refl refl refl) stands past in
+    far.goes
+
+pub returns-clause-pulls : goal.returns-clause-pulls
+returns-clause-pulls g c x quiet before stands past =
+    block-pulls g.B.Feeder.kept c.args.tables.now c.args.gain c.args.ended c.args.want (waiting_frames c.args.self.now.plan c.args.format c.args.ring.now.bytes)
+    c.args.self.now _ c.advance-advance.result c.args.out.now c.feed_stages.new.out x quiet before (is-block g c.before _ refl refl refl) stands past

@@ -11,8 +11,9 @@ use Rattle.pcm_ring.specs.Ring.{Ring, free_bytes}
 use Rattle.pcm_feeder.specs.Streams.{frames_of}
 use Rattle.pcm_feeder.proofs.Frames.{length-frames_of}
 use Rattle.pcm_plan.specs.Plans.{PlanSeen}
-use Rattle.pcm_chain.specs.Pushes.{pushed_frames, room_for, Pushes}
-use Rattle.pcm_chain.proofs.Pushing.{frames_of-bits, nothing-pushed, piece-frames, pushes-on, room-left, whole-samples}
+use Rattle.pcm_chain.specs.Pushes.{pushed_frames, room_for, Pushes, PushesFar}
+use Rattle.pcm_chain.proofs.Bits.{frames_of-bits}
+use Rattle.pcm_chain.proofs.Pushing.{none-pushed, nothing-pushed, piece-frames, pushes-far, pushes-on, room-left, whole-samples}
 use Rattle.pcm_chain.proofs.chain.ChainOf.push.Goals as goal
 
 pub returns-clause-pushes : goal.returns-clause-pushes
@@ -37,6 +38,16 @@ returns-clause-fits g c =
     (omega (arith, h.samples, whole, ap (λ k. k * channels_of plan.source) frames)) in
     frames_of-bits 32 (channels_of plan.source) samples (subst (All (FitsBits 32)) all h.fits)
 
+pub returns-clause-stays : goal.returns-clause-stays
+returns-clause-stays g c =
+    let h = c.loop-eaten.invariant in
+    let all : c.loop-eaten.eaten ≡ length (pushed_frames c.args.self.now.plan c.args.input.now) = omega (arith, h.within, h.count, c.loop-eaten-test.false) in
+    record {
+      plan = h.plan;
+      kinds = h.kinds;
+      far = λ eaten records. subst (λ n. PushesFar g.B.Feeder.kept c.args.tables.now n c.args.self.now c.loop-eaten.self c.loop-eaten.pushed eaten) all (h.far eaten records);
+    }
+
 pub loop-eaten-init : goal.loop-eaten-init
 loop-eaten-init g c =
     let plan = c.args.self.now.plan in
@@ -51,7 +62,7 @@ loop-eaten-init g c =
       most = omega arith;
       plan = refl;
       kinds = λ have. have;
-      records = c.requires.can.records;
+      far = λ eaten records. none-pushed g.B.Feeder.kept c.args.tables.now c.args.self.now eaten records;
       fits = (let none : 0 * c.channels-channels.result ≡ 0 = omega arith in subst (λ n. All (FitsBits 32) (take n c.args.input.now))
           (sym none) (All-nil (FitsBits 32)));
       kept = omega arith;
@@ -64,8 +75,11 @@ loop-eaten-init g c =
 pub push_block-more-requires-clause-can : goal.push_block-more-requires-clause-can
 push_block-more-requires-clause-can g c =
     let h = c.loop-eaten.invariant in
+    let can = c.requires.can in
+    let far = h.far can.eaten can.records in
     record {
-      records = h.records;
+      eaten = can.eaten + c.loop-eaten.eaten;
+      records = far.records;
       filters = rw h.plan c.requires.can.filters;
       bits = rw h.plan c.requires.can.bits;
     }
@@ -124,7 +138,10 @@ loop-eaten-preserved g c =
       most = omega (arith, h.most, c.push_block-more.ensures.most, c.piece-block.ensures.some);
       plan = c.push_block-more.ensures.stays.plan ∙ h.plan;
       kinds = λ have. c.push_block-more.ensures.stays.kinds (h.kinds have);
-      records = c.push_block-more.ensures.stays.records;
+      far = λ n records.
+          let one = h.far n records in
+          pushes-far kept c.args.tables.now e b c.args.self.now c.loop-eaten.self c.push_block-more.new.self first more n h.plan records.fits
+          one (c.push_block-more.ensures.stays.far (n + e) one.records);
       fits = (let n = c.channels-channels.result in
           let more : (e + b) * n ≡ e * n + ((e + b) * n - e * n) = omega arith in
           subst (All (FitsBits 32)) (sym (ap (λ k. take k samples) more ∙ take-add (e * n) ((e + b) * n - e * n) samples))

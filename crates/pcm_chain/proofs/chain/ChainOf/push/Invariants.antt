@@ -1,11 +1,11 @@
-use Rattle.std.proofs.Common.{◌≡◌, ◌≤◌, ◌+◌, ◌-◌, ◌*◌, min, List, length, take, All}
+use Rattle.std.proofs.Common.{◌≡◌, ◌≤◌, ◌+◌, ◌-◌, ◌*◌, min, ℕ, List, length, take, All}
 use Rattle.pcm_num.specs.Limit.{FitsBits}
 use Rattle.pcm_format.specs.Formats.{bytes_of}
 use Rattle.pcm_format.specs.Frames.{Frame}
 use Rattle.pcm_format.specs.Layouts.{channels_of}
 use Rattle.pcm_feeder.specs.Racks.{HaveKinds}
 use Rattle.pcm_chain.specs.Chains.{boxes_in, plan_in}
-use Rattle.pcm_chain.specs.Pushes.{pushed_frames, room_for, HasRecorded, HasRecordedSome, Pushes}
+use Rattle.pcm_chain.specs.Pushes.{pushed_frames, room_for, HasRecorded, HasRecordedFar, Pushes, PushesFar}
 use Rattle.pcm_chain.proofs.chain.ChainOf.push.Given as goal
 
 -- `eaten` frames were eaten, and the frames made of them were kept as far as there was room
@@ -17,7 +17,7 @@ invariant-loop-eaten g l = record {
   most : l.pushed.came ≤ l.eaten * 256;
   plan : plan_in l.self ≡ plan_in l.fn.self;
   kinds : HaveKinds g.B.Feeder.kind (boxes_in l.fn.self) → HaveKinds g.B.Feeder.kind (boxes_in l.self);
-  records : HasRecordedSome g.B.Feeder.kept l.tables l.self;
+  far : (eaten : ℕ) → HasRecordedFar g.B.Feeder.kept l.tables l.fn.self eaten → PushesFar g.B.Feeder.kept l.tables l.eaten l.fn.self l.self l.pushed eaten;
   fits : All (FitsBits 32) (take (l.eaten * l.channels) l.input);
   kept : l.pushed.kept ≡ min l.pushed.came (room_for (plan_in l.fn.self) l.format l.fn.ring);
   bytes : length l.ring.bytes ≡ length l.fn.ring.bytes + l.pushed.kept * (channels_of (plan_in l.fn.self).target * bytes_of l.format);
