@@ -245,6 +245,7 @@ impl<B: Feeder> ChainOf<B> {
         // The type of the samples keeps them within 32 bits.
         ensures fits { HaveBits 32 (pushed_frames (plan_in self.old) input.now) }
         ensures kept { result.kept ≡ min result.came (room_for (plan_in self.old) format ring.old) }
+        ensures count { GrowsBy (put_bytes (plan_in self.old) format result.kept) ring.old ring.new }
         ensures ring { ring.new ≡ record ring.old { bytes = ring.new.bytes } }
         ensures pushes { PushesOn B.kept tables.now format input.now
             self.old self.new result ring.old ring.new }

@@ -5,7 +5,7 @@ use Rattle.pcm_format.specs.declared.settings.Settings.{Settings}
 use Rattle.pcm_format.specs.Frames.{Frame, frame_bytes, spelled_frames}
 use Rattle.pcm_format.specs.Layouts.{channels_of}
 use Rattle.pcm_format.proofs.Streams.{channels_of-above}
-use Rattle.pcm_ring.specs.Ring.{free_bytes}
+use Rattle.pcm_ring.specs.Ring.{Ring, free_bytes}
 use Rattle.pcm_rate.specs.declared.rate.Rate.{Rate}
 use Rattle.pcm_rate.specs.Rates.{can}
 use Rattle.pcm_feeder.specs.declared.kind.Kind.{Kind}
@@ -21,7 +21,8 @@ use Rattle.pcm_plan.specs.Through.{recs}
 use Rattle.pcm_chain.specs.declared.chain.ChainOf.{ChainOf}
 use Rattle.pcm_chain.specs.declared.chain.Pushed.{Pushed}
 use Rattle.pcm_chain.specs.Chains.{boxes_in, plan_in}
-use Rattle.pcm_chain.specs.Pushes.{pushed_frames, room_for, HasRecorded, Pushes}
+use Rattle.pcm_chain.specs.Pushes.{pushed_frames, room_for, HasRecorded, HasRecordedFar, Pushes, PushesFar}
+use Rattle.pcm_chain.specs.Rings.{put_bytes, GrowsBy}
 use Rattle.pcm_chain.proofs.Counting.{allowed-grows}
 use Rattle.pcm_chain.proofs.Pushing.{count-frames}
 use Rattle.pcm_desk.specs.declared.record_book.RecordBook.{RecordBook}
@@ -117,40 +118,58 @@ pushed-count filters old n samples planned whole =
     let layout = old.path.device.settings.layout in
     ap length (pushed-is filters old samples planned) ∙ count-frames (channels_of layout) n samples (channels_of-above layout) whole
 
--- what a push of a channel's chain says, once it is known what the channel stands for
-pub record PushCaptured {B : Type 0} (kept : B → Kept) (filters : Filters) (device : DeviceSeen) (n : ℕ) (book : RecordBook) (frames input : List Frame) (new : ChainOf B) (pushed : Pushed) (bytes_old bytes_new : List ℕ) : Type 0 where
-  pub came : pushed.came ≡ coming (record_rate_at device book) n book
+-- what a push of a channel's chain says of the counts
+pub record PushFar {B : Type 0} (kept : B → Kept) (filters : Filters) (device : DeviceSeen) (n : ℕ) (book : RecordBook) (new : ChainOf B) (pushed : Pushed) (bytes_old bytes_new : List ℕ) : Type 0 where
   pub keeps : pushed.kept ≡ keeping (record_rate_at device book) n book
-  pub records : HasRecorded kept filters new (frames ++ input)
-  pub bytes : bytes_new ≡ bytes_old ++ recorded_bytes device book.opening.settings (frames ++ input) book.given (keeping (record_rate_at device book) n book)
+  pub records : HasRecordedFar kept filters new (book.captured + n)
+  pub long : length bytes_new ≡ length bytes_old + keeping (record_rate_at device book) n book * frame_bytes book.opening.settings
 
-pub push-captured : {B : Type 0} (kept : B → Kept) (filters : Filters) (old : RecordChannelOf B) (n : ℕ) (samples : List ℤ) (new : ChainOf B) (pushed : Pushed) (ring bytes : List ℕ) (frames : List Frame)
+pub push-far : {B : Type 0} (kept : B → Kept) (filters : Filters) (old : RecordChannelOf B) (n : ℕ) (samples : List ℤ) (new : ChainOf B) (pushed : Pushed) (ring : Ring)
     → IsRecordPlanned filters old → length samples ≡ n * channels_of old.path.device.settings.layout → pushed.kept ≡ min pushed.came (room_for (plan_in old.path.chain) old.book.opening.settings.format old.path.ring)
-    → Pushes kept filters old.book.opening.settings.format (pushed_frames (plan_in old.path.chain) samples) old.path.chain new frames pushed old.path.ring.bytes ring → RecordStands kept filters old old.book bytes frames
-    → PushCaptured kept filters (seen filters old.path.device) n old.book frames (frames_of (channels_of old.path.device.settings.layout) samples) new pushed old.path.ring.bytes ring
-push-captured {B = B} kept filters old n samples new pushed ring bytes frames planned whole kept_is p s =
+    → GrowsBy (put_bytes (plan_in old.path.chain) old.book.opening.settings.format pushed.kept) old.path.ring ring
+    → PushesFar kept filters (length (pushed_frames (plan_in old.path.chain) samples)) old.path.chain new pushed old.book.captured
+    → PushFar kept filters (seen filters old.path.device) n old.book new pushed old.path.ring.bytes ring.bytes
+push-far {B = B} kept filters old n samples new pushed ring planned whole kept_is grows far =
     let device : DeviceSeen = seen filters old.path.device in
     let book : RecordBook = old.book in
     let settings : Settings = book.opening.settings in
     let rate : Rate = record_rate_at device book in
     let plan : PlanSeen = plan_in old.path.chain in
-    let input : List Frame = frames_of (channels_of old.path.device.settings.layout) samples in
     let is = planned.plan_is in
+    let p = subst (λ k. PushesFar kept filters k old.path.chain new pushed book.captured) (pushed-count filters old n samples planned whole) far in
     let same : rate_in_plan plan ≡ rate = ap (λ (q : PlanSeen). rate_in_plan q) is in
-    let all : pushed_frames plan samples ≡ input = pushed-is filters old samples planned in
-    let given : can (rate_in_plan plan) (length frames) ≡ book.given = ap (λ k. can (rate_in_plan plan) k) s.captured ∙ sym old.safe.given in
-    let reach : can (rate_in_plan plan) (length frames + length (pushed_frames plan samples)) ≡ can rate (book.captured + n) =
-    ap (λ (r : Rate). can r (length frames + length (pushed_frames plan samples))) same
-    ∙ ap (λ k. can rate (length frames + k)) (pushed-count filters old n samples planned whole) ∙ ap (λ k. can rate (k + n)) s.captured in
     let came : pushed.came ≡ coming rate n book =
-    p.came ∙ ap (λ k. k - can (rate_in_plan plan) (length frames)) reach ∙ ap (λ k. can rate (book.captured + n) - k) given in
+    p.came ∙ ap (λ (r : Rate). can r (book.captured + n) - can r book.captured) same ∙ ap (λ k. can rate (book.captured + n) - k) (ap (λ (r : Rate). can r book.captured) (sym same) ∙ sym old.safe.given) in
     let free : free_bytes old.path.ring ≡ record_free_of book = ap (λ k. k - length old.path.ring.bytes) old.serves.size ∙ ap (λ k. ring_bytes book.opening - k) old.fill in
     let room : room_for plan settings.format old.path.ring ≡ record_free_of book / frame_bytes settings =
     ap (λ (q : PlanSeen). room_for q settings.format old.path.ring) is ∙ ap (λ k. k / frame_bytes settings) free in
     let keeps : pushed.kept ≡ keeping rate n book = kept_is ∙ ap (λ k. min k (room_for plan settings.format old.path.ring)) came ∙ ap (λ k. min (coming rate n book) k) room in
     record {
-      came = came;
       keeps = keeps;
+      records = p.records;
+      long = grows ∙ ap (λ (q : PlanSeen). length old.path.ring.bytes + put_bytes q settings.format pushed.kept) is
+          ∙ ap (λ k. length old.path.ring.bytes + k * frame_bytes settings) keeps;
+    }
+
+-- and, once it is known what the channel stands for, of the frames and bytes
+pub record PushCaptured {B : Type 0} (kept : B → Kept) (filters : Filters) (device : DeviceSeen) (n : ℕ) (book : RecordBook) (frames input : List Frame) (new : ChainOf B) (bytes_old bytes_new : List ℕ) : Type 0 where
+  pub records : HasRecorded kept filters new (frames ++ input)
+  pub bytes : bytes_new ≡ bytes_old ++ recorded_bytes device book.opening.settings (frames ++ input) book.given (keeping (record_rate_at device book) n book)
+
+pub push-captured : {B : Type 0} (kept : B → Kept) (filters : Filters) (old : RecordChannelOf B) (n : ℕ) (samples : List ℤ) (new : ChainOf B) (pushed : Pushed) (ring bytes : List ℕ) (frames : List Frame)
+    → IsRecordPlanned filters old → pushed.kept ≡ keeping (record_rate_at (seen filters old.path.device) old.book) n old.book
+    → Pushes kept filters old.book.opening.settings.format (pushed_frames (plan_in old.path.chain) samples) old.path.chain new frames pushed old.path.ring.bytes ring → RecordStands kept filters old old.book bytes frames
+    → PushCaptured kept filters (seen filters old.path.device) n old.book frames (frames_of (channels_of old.path.device.settings.layout) samples) new old.path.ring.bytes ring
+push-captured {B = B} kept filters old n samples new pushed ring bytes frames planned keeps p s =
+    let device : DeviceSeen = seen filters old.path.device in
+    let book : RecordBook = old.book in
+    let settings : Settings = book.opening.settings in
+    let plan : PlanSeen = plan_in old.path.chain in
+    let input : List Frame = frames_of (channels_of old.path.device.settings.layout) samples in
+    let is = planned.plan_is in
+    let all : pushed_frames plan samples ≡ input = pushed-is filters old samples planned in
+    let given : can (rate_in_plan plan) (length frames) ≡ book.given = ap (λ k. can (rate_in_plan plan) k) s.captured ∙ sym old.safe.given in
+    record {
       records = subst (λ list. HasRecorded kept filters new (frames ++ list)) all p.records;
       bytes = p.bytes
           ∙ ap (λ list. old.path.ring.bytes ++ spelled_frames settings.format (recs plan filters (frames ++ list) (can (rate_in_plan plan) (length frames)) pushed.kept)) all
@@ -180,24 +199,23 @@ kept-length kept filters old n frames input new planned plan records =
     (subst (λ (p : PlanSeen). HaveChannels (channels_of p.source) (frames ++ input)) (plan ∙ planned.plan_is) records.frames)
 
 -- the ring holds as many bytes as the book says
-pub fill-captured : {B : Type 0} (kept : B → Kept) (filters : Filters) (old : RecordChannelOf B) (book : RecordBook) (n : ℕ) (frames input : List Frame) (new : ChainOf B) (pushed : Pushed) (ring : List ℕ) → IsRecordPlanned filters old → plan_in new ≡ plan_in old.path.chain
-    → BookCaptured (seen filters old.path.device) n old.book book → PushCaptured kept filters (seen filters old.path.device) n old.book frames input new pushed old.path.ring.bytes ring → length ring ≡ record_fill_of book
-fill-captured kept filters old book n frames input new pushed ring planned plan b p =
-    let device : DeviceSeen = seen filters old.path.device in
-    let more : List ℕ = recorded_bytes device old.book.opening.settings (frames ++ input) old.book.given (keeping (record_rate_at device old.book) n old.book) in
-    let long = kept-length kept filters old n frames input new planned plan p.records in
+pub fill-captured : {B : Type 0} (kept : B → Kept) (filters : Filters) (old : RecordChannelOf B) (book : RecordBook) (n : ℕ) (new : ChainOf B) (pushed : Pushed) (ring : List ℕ)
+    → BookCaptured (seen filters old.path.device) n old.book book → PushFar kept filters (seen filters old.path.device) n old.book new pushed old.path.ring.bytes ring → length ring ≡ record_fill_of book
+fill-captured kept filters old book n new pushed ring b p =
     let fill = old.fill in
     let within = old.within in
-    omega (arith, ap length p.bytes, length-append old.path.ring.bytes more, long, b.kept, b.read)
+    omega (arith, p.long, b.kept, b.read)
 
 -- a channel that is running, once its chain was pushed
-pub moves-captured : {B : Type 0} (kind : B → Kind) (kept : B → Kept) (filters : Filters) (old new : RecordChannelOf B) (n : ℕ) (input : List Frame) (pushed : Pushed) → IsRecordPlanned filters old → new.path.device ≡ old.path.device → plan_in new.path.chain ≡ plan_in old.path.chain
+pub moves-captured : {B : Type 0} (kind : B → Kind) (kept : B → Kept) (filters : Filters) (old new : RecordChannelOf B) (n : ℕ) (input : List Frame) → IsRecordPlanned filters old → new.path.device ≡ old.path.device → plan_in new.path.chain ≡ plan_in old.path.chain
     → (HaveKinds kind (boxes_in old.path.chain) → HaveKinds kind (boxes_in new.path.chain)) → length input ≡ n → HaveBits 32 input → BookCaptured (seen filters old.path.device) n old.book new.book
-    → ((bytes : List ℕ) (frames : List Frame) → RecordStands kept filters old old.book bytes frames → PushCaptured kept filters (seen filters old.path.device) n old.book frames input new.path.chain pushed old.path.ring.bytes new.path.ring.bytes)
+    → HasRecordedFar kept filters new.path.chain (old.book.captured + n)
+    → ((bytes : List ℕ) (frames : List Frame) → RecordStands kept filters old old.book bytes frames → PushCaptured kept filters (seen filters old.path.device) n old.book frames input new.path.chain old.path.ring.bytes new.path.ring.bytes)
     → RecordMoves kind kept filters input (keeping (record_rate_at (seen filters old.path.device) old.book) n old.book) old new
-moves-captured {B = B} kind kept filters old new n input pushed planned device plan kinds count bits b pushes = record {
+moves-captured {B = B} kind kept filters old new n input planned device plan kinds count bits b far pushes = record {
   kinds = kinds;
   planned = λ p used. planned-as Record filters _ _ old.path new.path device plan b.settings planned;
+  far = λ h used. subst (λ k. HasRecordedFar kept filters new.path.chain k) (sym b.captured) far;
   stands = λ bytes frames s.
       let p = pushes bytes frames s in
       let more : List ℕ = recorded_bytes (seen filters old.path.device) old.book.opening.settings (frames ++ input) old.book.given (keeping (record_rate_at (seen filters old.path.device) old.book) n old.book) in

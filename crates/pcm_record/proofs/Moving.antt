@@ -13,6 +13,7 @@ use Rattle.pcm_rate.specs.declared.rate.Rate.{Rate}
 use Rattle.pcm_plan.specs.Plans.{PlanSeen, rate_in_plan}
 use Rattle.pcm_chain.specs.declared.chain.ChainOf.{ChainOf}
 use Rattle.pcm_chain.specs.Chains.{boxes_in, plan_in}
+use Rattle.pcm_chain.specs.Pushes.{HasRecordedFar}
 use Rattle.pcm_path.specs.Paths.{IsEmpty, path_rate}
 use Rattle.pcm_oss.specs.declared.event.Way.TheVariants.{Record}
 use Rattle.pcm_path.proofs.Paths.{device-served, planned-as}
@@ -35,13 +36,14 @@ use Rattle.pcm_record.specs.declared.channel.RecordChannelOf.{RecordChannelOf}
 use Rattle.pcm_record.specs.Channels.{IsRecordPlanned, IsRecordServed, RecordMoves}
 use Rattle.std.proofs.lemmas.Bool.{cases_Bool}
 use Rattle.pcm_record.proofs.Held.{safe-any}
-use Rattle.pcm_record.proofs.Stands.{Reads, none-captured, none-kept, stands-as, stands-empty, stands-read}
+use Rattle.pcm_record.proofs.Stands.{Reads, none-captured, none-kept, record-far, stands-as, stands-empty, stands-read}
 
 -- a channel that stays stands for what it stood for
 pub moves-nothing : {B : Type 0} (kind : B → Kind) (kept : B → Kept) (filters : Filters) (input : List Frame) (count : ℕ) (channel : RecordChannelOf B) → RecordMoves kind kept filters input count channel channel
 moves-nothing kind kept filters input count channel = record {
   kinds = λ h. h;
   planned = λ p. p;
+  far = λ f. f;
   stands = λ bytes frames s.
       let more : List ℕ = recorded_bytes (seen filters channel.path.device) channel.book.opening.settings (frames ++ input) channel.book.given count in
       stands-as kept filters channel bytes (take channel.book.kept (bytes ++ more)) frames (take channel.book.captured (frames ++ input))
@@ -56,6 +58,7 @@ pub moves-ended : {B : Type 0} (kind : B → Kind) (kept : B → Kept) (filters 
 moves-ended kind kept filters old new kinds planned none empty = record {
   kinds = λ h. kinds;
   planned = planned;
+  far = λ f. record-far kept filters new [] [] (stands-empty kept filters new none empty);
   stands = λ bytes frames s.
       let all : List ℕ = bytes ++ recorded_bytes (seen filters old.path.device) old.book.opening.settings (frames ++ []) old.book.given 0 in
       stands-as kept filters new [] (take new.book.kept all) [] (take new.book.captured (frames ++ []))
@@ -70,6 +73,9 @@ pub moves-read : {B : Type 0} (kind : B → Kind) (kept : B → Kept) (filters :
 moves-read {B = B} kind kept filters count old new device chain ring r held = record {
   kinds = λ h. subst (λ (c : ChainOf B). HaveKinds kind (boxes_in c)) (sym chain) h;
   planned = λ p used. planned-as Record filters _ _ old.path new.path device (ap plan_in chain) r.settings (p (held used));
+  far = λ f used.
+      subst (λ (c : ChainOf B). HasRecordedFar kept filters c new.book.captured) (sym chain)
+      (subst (λ k. HasRecordedFar kept filters old.path.chain k) (sym r.captured) (f (held used)));
   stands = λ bytes frames s.
       stands-as kept filters new bytes (take new.book.kept (bytes ++ recorded_bytes (seen filters old.path.device) old.book.opening.settings (frames ++ []) old.book.given 0)) frames (take new.book.captured (frames ++ []))
       (none-kept new.book.kept (seen filters old.path.device) old.book.opening.settings bytes (frames ++ []) old.book.given (s.count ∙ sym r.kept)) (none-captured new.book.captured frames (s.captured ∙ sym r.captured))

@@ -5,6 +5,10 @@ use Rattle.pcm_feeder.specs.declared.kind.Kind.{Kind}
 use Rattle.pcm_feeder.specs.Kept.{Kept}
 use Rattle.pcm_oss.specs.declared.event.Way.TheVariants.{Record}
 use Rattle.pcm_ring.specs.Ring.{Ring}
+use Rattle.pcm_rate.specs.Rates.{can}
+use Rattle.pcm_chain.specs.Chains.{plan_in}
+use Rattle.pcm_chain.specs.Far.{ChainIsSoFar}
+use Rattle.pcm_chain.specs.Pushes.{HasRecordedFar}
 use Rattle.pcm_plan.specs.Plans.{PlanSeen, rate_in_plan}
 use Rattle.pcm_desk.specs.declared.record_book.RecordBook.{RecordBook}
 use Rattle.pcm_desk.specs.RunStates.{is_unheld}
@@ -34,6 +38,12 @@ stands-resumed kind kept mark held other new old taken device book r = record {
   planned = λ filters served used.
       let busy = sym (ap (λ (b : RecordBook). is_unheld b.state) book) ∙ used in
       planned-resumed kind kept mark held Record filters _ _ other.path old new.path (taken busy) device (ap (λ (b : RecordBook). b.opening.settings) book) r (served busy);
+  far = λ filters far used.
+      let busy = sym (ap (λ (b : RecordBook). is_unheld b.state) book) ∙ used in
+      let goes = r.goes (taken busy) in
+      subst (λ (b : RecordBook). HasRecordedFar kept filters new.path.chain b.captured) (sym book)
+      (subst (λ (p : PlanSeen). ChainIsSoFar kept filters new.path.chain other.book.captured 0 (can (rate_in_plan p) other.book.captured)) (sym goes.plan)
+      (goes.far filters other.book.captured 0 (can (rate_in_plan (plan_in other.path.chain)) other.book.captured) (far busy)));
   stands = λ filters bytes frames s. subst (λ (b : RecordBook). RecordStands kept filters new b bytes frames) (sym book) (record {
     book_is = book;
     count = s.count;

@@ -9,8 +9,12 @@ use Rattle.pcm_format.specs.Frames.{Frame}
 use Rattle.pcm_feeder.specs.Filters.{Filters}
 use Rattle.pcm_feeder.specs.Kept.{Kept}
 use Rattle.pcm_plan.specs.Fits.{HaveBits}
+use Rattle.pcm_plan.specs.Plans.{rate_in_plan}
+use Rattle.pcm_rate.specs.Rates.{can}
 use Rattle.pcm_chain.specs.declared.chain.ChainOf.{ChainOf}
-use Rattle.pcm_chain.specs.Pushes.{HasRecorded}
+use Rattle.pcm_chain.specs.Chains.{plan_in}
+use Rattle.pcm_chain.specs.Pushes.{HasRecorded, HasRecordedFar}
+use Rattle.pcm_chain.proofs.Far.{chain-far}
 use Rattle.pcm_path.specs.Paths.{IsEmpty}
 use Rattle.pcm_desk.specs.declared.record_book.RecordBook.{RecordBook}
 use Rattle.pcm_desk.specs.Device.{DeviceSeen}
@@ -18,7 +22,7 @@ use Rattle.pcm_desk.specs.RunStates.{is_unheld}
 use Rattle.pcm_desk.specs.RecordSafe.{IsRecordUnstarted}
 use Rattle.pcm_sound.specs.Given.{recorded_bytes}
 use Rattle.pcm_record.specs.declared.channel.RecordChannelOf.{RecordChannelOf}
-use Rattle.pcm_record.specs.Channels.{RecordStands}
+use Rattle.pcm_record.specs.Channels.{RecordIsSoFar, RecordStands}
 
 -- a channel that begins, or whose recording is over, stands for no bytes and no frames
 pub stands-empty : {B : Type 0} (kept : B → Kept) (filters : Filters) (channel : RecordChannelOf B) → IsRecordUnstarted channel.book → IsEmpty kept channel.path
@@ -31,6 +35,13 @@ stands-empty kept filters channel none empty = record {
   bits = All-nil (λ (frame : Frame). All (FitsBits 32) frame);
   records = λ used. empty.records filters;
 }
+
+-- what stands for frames is as far as its book counts
+pub record-far : {B : Type 0} (kept : B → Kept) (filters : Filters) (channel : RecordChannelOf B) (bytes : List ℕ) (frames : List Frame) → RecordStands kept filters channel channel.book bytes frames
+    → RecordIsSoFar kept filters channel
+record-far kept filters channel bytes frames s used =
+    let chain = channel.path.chain in
+    subst (HasRecordedFar kept filters chain) s.captured (chain-far kept filters chain frames 0 (can (rate_in_plan (plan_in chain)) (length frames)) (s.records used))
 
 -- what a channel stands for, by equal lists
 pub stands-as : {B : Type 0} (kept : B → Kept) (filters : Filters) (channel : RecordChannelOf B) (bytes same_bytes : List ℕ) (frames same_frames : List Frame) → same_bytes ≡ bytes → same_frames ≡ frames

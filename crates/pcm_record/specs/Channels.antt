@@ -12,7 +12,7 @@ use Rattle.pcm_oss.specs.declared.reply.Errno.{Errno}
 use Rattle.pcm_oss.specs.Replies.{bytes_due}
 use Rattle.pcm_oss.specs.declared.fragments.TheConstants.{RING_BYTES}
 use Rattle.pcm_plan.specs.Fits.{HaveBits}
-use Rattle.pcm_chain.specs.Pushes.{HasRecorded}
+use Rattle.pcm_chain.specs.Pushes.{HasRecorded, HasRecordedFar}
 use Rattle.pcm_desk.specs.declared.record_book.RecordBook.{RecordBook}
 use Rattle.pcm_desk.specs.declared.device.Device.{Device}
 use Rattle.pcm_desk.specs.Device.{seen}
@@ -49,17 +49,17 @@ pub record RecordStands {B : Type 0} (kept : B → Kept) (filters : Filters) (ch
   pub bits : HaveBits 32 frames
   pub records : is_unheld book.state ≡ false → HasRecorded kept filters channel.path.chain frames
 
--- a channel stands for its book, some bytes and some frames
-pub record RecordStandsForSome {B : Type 0} (kept : B → Kept) (filters : Filters) (channel : RecordChannelOf B) : Type 0 where
-  pub bytes : List ℕ
-  pub frames : List Frame
-  pub stands : RecordStands kept filters channel channel.book bytes frames
+-- How far a channel is, by its book's counts, whatever was captured: its chain has eaten as many frames as the book counts, and
+-- given all that they allow. Of a free one's chain nothing is said.
+abbrev pub RecordIsSoFar : {B : Type 0} → (B → Kept) → Filters → RecordChannelOf B → Type 0
+RecordIsSoFar kept filters channel =
+    is_unheld channel.book.state ≡ false → HasRecordedFar kept filters channel.path.chain channel.book.captured
 
--- each box of a channel is of its place's kind, its chain goes by its plan unless it is free, and the channel stands for some bytes and frames
+-- each box of a channel is of its place's kind, and unless it is free its chain goes by its plan and is as far as its book counts
 pub record IsRecordReady {B : Type 0} (kind : B → Kind) (kept : B → Kept) (filters : Filters) (channel : RecordChannelOf B) : Type 0 where
   pub kinds : HasBoxes kind channel.path
   pub planned : IsRecordServed filters channel
-  pub stands : RecordStandsForSome kept filters channel
+  pub far : RecordIsSoFar kept filters channel
 
 -- a channel that captures `frames` frames more has room for them in its counts, and for those that come of them
 pub record CaptureFits {B : Type 0} (filters : Filters) (frames : ℕ) (channel : RecordChannelOf B) : Type 0 where
@@ -85,6 +85,7 @@ pub record IsRecordUnopened {B : Type 0} (kind : B → Kind) (kept : B → Kept)
 pub record RecordMoves {B : Type 0} (kind : B → Kind) (keeps : B → Kept) (filters : Filters) (input : List Frame) (count : ℕ) (old new : RecordChannelOf B) : Type 0 where
   pub kinds : HasBoxes kind old.path → HasBoxes kind new.path
   pub planned : IsRecordServed filters old → IsRecordServed filters new
+  pub far : RecordIsSoFar keeps filters old → RecordIsSoFar keeps filters new
   pub stands : (bytes : List ℕ) (frames : List Frame) → RecordStands keeps filters old old.book bytes frames
       → RecordStands keeps filters new new.book
       (take new.book.kept (bytes ++ recorded_bytes (seen filters old.path.device) old.book.opening.settings (frames ++ input) old.book.given count))
@@ -96,6 +97,7 @@ pub record RecordMoves {B : Type 0} (kind : B → Kind) (keeps : B → Kept) (fi
 pub record RecordStandsAs {B : Type 0} (kept : B → Kept) (other channel : RecordChannelOf B) : Type 0 where
   pub book : channel.book ≡ other.book
   pub planned : (filters : Filters) → IsRecordServed filters other → IsRecordServed filters channel
+  pub far : (filters : Filters) → RecordIsSoFar kept filters other → RecordIsSoFar kept filters channel
   pub stands : (filters : Filters) (bytes : List ℕ) (frames : List Frame) → RecordStands kept filters other other.book bytes frames
       → RecordStands kept filters channel channel.book bytes frames
 

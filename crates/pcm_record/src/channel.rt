@@ -35,7 +35,7 @@ pub struct RecordChannelOf<B> {
 
 impl<B: Feeder> RecordChannelOf<B> {
     ghost use Rattle.pcm_feeder.specs.Filters.{Filters};
-    ghost use Rattle.pcm_record.specs.Channels.{CaptureFits, CaptureMoves, IsRecordServed, MayAskRecord, RecordLeaves, RecordMoves, RecordReads, RecordStandsForSome, RecordTurns};
+    ghost use Rattle.pcm_record.specs.Channels.{CaptureFits, CaptureMoves, IsRecordServed, MayAskRecord, RecordIsSoFar, RecordLeaves, RecordMoves, RecordReads, RecordTurns};
 
     /// Whether nobody has the channel.
     pub fn is_free(&self) -> bool
@@ -92,7 +92,7 @@ impl<B: Feeder> RecordChannelOf<B> {
         requires few { frames ≤ RING_FRAMES }
         requires whole { length input.now ≡ frames * channels_of self.old.path.device.settings.layout }
         requires planned { IsRecordServed tables.now self.old }
-        requires stands { RecordStandsForSome B.kept tables.now self.old }
+        requires far { RecordIsSoFar B.kept tables.now self.old }
         requires count { CaptureFits tables.now frames self.old }
         requires kept { self.old.book.kept + RING_BYTES < 2 ^ 64 }
         ensures { RecordLeaves (capturing (seen tables.now self.old.path.device) frames self.old.book)
