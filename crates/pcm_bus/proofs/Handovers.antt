@@ -22,16 +22,18 @@ use Rattle.pcm_plan.specs.Plans.{PlanSeen}
 use Rattle.pcm_plan.specs.Through.{recs}
 use Rattle.pcm_chain.specs.declared.chain.ChainOf.{ChainOf}
 use Rattle.pcm_chain.specs.Chains.{plan_in}
-use Rattle.pcm_chain.specs.Gives.{AreJustEnough, CanGive, GivesExactly, GivesOn, filling_frames}
+use Rattle.pcm_chain.specs.Bits.{bits_left}
+use Rattle.pcm_chain.specs.Gives.{AreJustEnough, CanGive, GivesExactly, GivesOn, GivesOnFar, IsJustSoFar, filling_frames}
 use Rattle.pcm_chain.specs.Pushes.{pushed_frames}
-use Rattle.pcm_chain.proofs.Level.{passed-by}
-use Rattle.pcm_chain.proofs.Bits.{frames_of-bits, interleaved-bits}
+use Rattle.pcm_chain.proofs.Far.{chain-far}
+use Rattle.pcm_chain.proofs.Level.{passed-by, passed-far}
+use Rattle.pcm_chain.proofs.Bits.{bits-recorded, frames_of-bits}
 use Rattle.pcm_chain.proofs.Pushing.{count-frames}
 use Rattle.pcm_desk.specs.Channels.{mixed_by}
-use Rattle.pcm_desk.specs.Device.{DeviceSeen, IsDevice, device_settings, device_filters, is_straight, mix_settings, parent_plan}
-use Rattle.pcm_desk.proofs.Ratios.{mixed-behind, parent-bits}
+use Rattle.pcm_desk.specs.Device.{DeviceSeen, IsDevice, device_settings, device_filters, device_quality, is_straight, mix_settings, mixed_for, parent_plan}
+use Rattle.pcm_desk.proofs.Ratios.{mixed-behind}
 use Rattle.pcm_desk.proofs.Straight.{straight-behind, straight-by, straight-channels, straight-count, straight-each}
-use Rattle.pcm_bus.specs.Handovers.{AreMixedFor, CanMake, HasMade, IsPlannedBy, MakesOn, raised_frames}
+use Rattle.pcm_bus.specs.Handovers.{AreMixedFor, CanMake, HasMade, HasMadeFar, IsPlannedBy, MakesOn, MakesOnFar, raised_frames}
 
 -- ---- mixed samples at 32 bits
 
@@ -108,6 +110,20 @@ made-more kept device old new samples n x handed is fits made mixed exactly =
       exactly = exactly;
     }
 
+-- what was made of frames was made by the counts
+pub made-far : {B : Type 0} (kept : B → Kept) (device : DeviceSeen) (chain : ChainOf B) (x : List Frame) (handed : ℕ)
+    → HasMade kept device chain x handed → HasMadeFar kept device chain handed
+made-far kept device chain x handed made =
+    let tables = device_filters device in
+    subst (λ n. IsJustSoFar kept tables chain n handed) made.count
+    (record { far = chain-far kept tables chain x 0 handed made.exactly.stands; exact = made.exactly.exact })
+
+-- what is eaten for n frames more is what the device needs by then
+more-mixed : (device : DeviceSeen) (samples : List ℤ) (handed n : ℕ) → IsDevice device → AreMixedFor device samples handed n
+    → mixed_for device handed + length (raised_frames device samples) ≡ mixed_for device (handed + n)
+more-mixed device samples handed n is mixed =
+    omega (arith, raised-count device samples handed n mixed, mixed-behind device handed n is)
+
 -- ---- a straight device
 
 -- it gets the mixed samples
@@ -133,6 +149,19 @@ straight-makes kept device chain samples n planned straight fits x handed made m
       frames = sym (ap interleaved (ap (λ k. given k n) (sym from) ∙ ap (given (length x)) (sym count)
           ∙ straight-behind device x frames straight) ∙ interleaved-frames_of c samples whole);
     }
+
+-- and the chain, which they pass by, is as far as if it had been fed them
+pub straight-far : {B : Type 0} (kept : B → Kept) (device : DeviceSeen) (chain : ChainOf B) (samples : List ℤ) (n : ℕ)
+    → IsPlannedBy device chain → is_straight device ≡ true → MakesOnFar kept device samples n chain chain
+straight-far kept device chain samples n planned straight handed made mixed =
+    let tables = device_filters device in
+    let more = raised_frames device samples in
+    let each : All TurnsEach (plan_in chain).stages = subst (λ (plan : PlanSeen). All TurnsEach plan.stages) (sym planned.plan_is) (straight-each device straight) in
+    let have : HaveChannels (channels_of (plan_in chain).source) more = subst (λ (plan : PlanSeen). HaveChannels (channels_of plan.source) more) (sym planned.plan_is) (raised-channels device samples) in
+    let long : length more ≡ n = raised-count device samples handed n mixed ∙ straight-by device handed n straight in
+    subst (λ k. IsJustSoFar kept tables chain (mixed_for device (handed + n)) (handed + k)) long
+    (subst (λ k. IsJustSoFar kept tables chain k (handed + length more)) (more-mixed device samples handed n planned.limits mixed)
+    (passed-far kept tables chain more (mixed_for device handed) handed each have made))
 
 -- they are n frames of the device
 pub straight-length : {B : Type 0} (kept : B → Kept) (device : DeviceSeen) (chain : ChainOf B) (samples : List ℤ)
@@ -170,9 +199,9 @@ pub can-give : {B : Type 0} (kept : B → Kept) (device : DeviceSeen) (chain : C
     → IsPlannedBy device chain → length out ≡ n * channels_of (device_settings device).layout → CanMake kept device chain samples n
     → CanGive kept (device_filters device) chain (raised device samples) (filling_frames (plan_in chain) out)
 can-give kept device chain samples out n planned long can = record {
-  frames = can.frames;
+  eaten = mixed_for device can.handed;
   given = can.handed;
-  gives = can.made.exactly;
+  gives = can.made;
   enough = subst (AreJustEnough (plan_in chain) (raised device samples) can.handed)
       (sym (fills device (plan_in chain) out n planned.plan_is long))
       (just-enough device (plan_in chain) samples can.handed n planned.plan_is can.enough);
@@ -205,16 +234,27 @@ chain-makes {B = B} kept device old new samples out given n planned fits long gi
           ∙ ap (λ (p : PlanSeen). interleaved (recs p tables (x ++ more) handed n)) planned.plan_is;
     }
 
--- ---- both
+-- by the counts it has made n frames more, which have the bits of the device
+pub record MakesFar {B : Type 0} (kept : B → Kept) (device : DeviceSeen) (new : ChainOf B) (n handed : ℕ) (given : List ℤ) : Type 0 where
+  pub made : HasMadeFar kept device new (handed + n)
+  pub bits : All (FitsBits (bits_of (device_settings device).format)) given
 
--- what the device gets has its bits
-pub made-bits : {B : Type 0} (kept : B → Kept) (device : DeviceSeen) (old new : ChainOf B) (samples given : List ℤ)
-    (n : ℕ) → IsDevice device → CanMake kept device old samples n → MakesOn kept device samples n old new given
-    → All (FitsBits (bits_of (device_settings device).format)) given
-made-bits kept device old new samples given n is can makes =
-    let bits = bits_of (device_settings device).format in
-    let all = can.frames ++ raised_frames device samples in
-    let m = makes can.frames can.handed can.made can.enough in
-    subst (All (FitsBits bits)) (sym m.frames)
-    (interleaved-bits bits (recs (parent_plan device) (device_filters device) all can.handed n)
-    (parent-bits device is all can.handed n m.made.bits))
+pub chain-makes-far : {B : Type 0} (kept : B → Kept) (device : DeviceSeen) (old new : ChainOf B)
+    (samples out given : List ℤ) (n handed : ℕ) → IsPlannedBy device old
+    → length out ≡ n * channels_of (device_settings device).layout
+    → GivesOnFar kept (device_filters device) (raised device samples) (filling_frames (plan_in old) out) old new given
+    → HasMadeFar kept device old handed → AreMixedFor device samples handed n → MakesFar kept device new n handed given
+chain-makes-far kept device old new samples out given n handed planned long gives made mixed =
+    let tables = device_filters device in
+    let plan = plan_in old in
+    let count = fills device plan out n planned.plan_is long in
+    let g = gives (mixed_for device handed) handed made
+    (subst (AreJustEnough plan (raised device samples) handed) (sym count) (just-enough device plan samples handed n planned.plan_is mixed)) in
+    let all = ap (λ (list : List Frame). mixed_for device handed + length list) (fed device plan samples planned.plan_is)
+    ∙ more-mixed device samples handed n planned.limits mixed in
+    record {
+      made = subst (λ k. IsJustSoFar kept tables new (mixed_for device (handed + n)) (handed + k)) count
+          (subst (λ k. IsJustSoFar kept tables new k (handed + filling_frames plan out)) all g.exactly);
+      bits = subst (λ bits. All (FitsBits bits) given)
+          (ap (λ (p : PlanSeen). bits_left p.stages) planned.plan_is ∙ bits-recorded tables (device_quality device) (device_settings device) (mix_settings device)) g.bits;
+    }

@@ -17,7 +17,7 @@ use Rattle.pcm_desk.specs.Device.{DeviceSeen, device_settings, device_filters, m
 use Rattle.pcm_play.specs.declared.channel.PlayChannelOf.{PlayChannelOf}
 use Rattle.pcm_map.specs.declared.channel.MapChannelOf.{MapChannelOf}
 use Rattle.pcm_bus.specs.Blocks.{AllStand, Sources, turned_ring, whole_block}
-use Rattle.pcm_bus.specs.Handovers.{AreMixedFor, HasMade, IsPlannedBy, raised_frames}
+use Rattle.pcm_bus.specs.Handovers.{AreMixedFor, HasMade, HasMadeFar, IsPlannedBy, raised_frames}
 
 -- a device that a bus can be made for, with the boxes of a rack
 pub record CanCarry {B : Type 0} (kind : B → Kind) (device : Device) (rack : RackOf B) : Type 0 where
@@ -26,15 +26,10 @@ pub record CanCarry {B : Type 0} (kind : B → Kind) (device : Device) (rack : R
   pub mix : mix_frames (unfiltered device) ≤ MIX_FRAMES
   pub kinds : IsRack kind rack
 
--- a chain has made what was handed over of some frames
-pub record HasMadeSome {B : Type 0} (kept : B → Kept) (device : DeviceSeen) (chain : ChainOf B) (handed : ℕ) : Type 0 where
-  pub frames : List Frame
-  pub made : HasMade kept device chain frames handed
-
 -- the chain of a bus goes by its plan, and has made what was handed over
 pub record BusStands {B : Type 0} (kept : B → Kept) (device : DeviceSeen) (chain : ChainOf B) (handed : ℕ) : Type 0 where
   pub planned : IsPlannedBy device chain
-  pub made : HasMadeSome kept device chain handed
+  pub made : HasMadeFar kept device chain handed
 
 -- a ring of the size of a device's, which is full
 pub record IsRingOf (device : Device) (ring : Ring) : Type 0 where

@@ -8,7 +8,7 @@ use Rattle.pcm_plan.specs.Fits.{HaveBits}
 use Rattle.pcm_plan.specs.Through.{recs}
 use Rattle.pcm_chain.specs.declared.chain.ChainOf.{ChainOf}
 use Rattle.pcm_chain.specs.Chains.{plan_in}
-use Rattle.pcm_chain.specs.Gives.{GivesExactly}
+use Rattle.pcm_chain.specs.Gives.{GivesExactly, IsJustSoFar}
 use Rattle.pcm_desk.specs.Channels.{mixed_by}
 use Rattle.pcm_desk.specs.Device.{DeviceSeen, IsDevice, device_filters, full_frame, mix_settings, mixed_for, parent_plan}
 
@@ -36,13 +36,23 @@ pub record HasMade {B : Type 0} (kept : B → Kept) (device : DeviceSeen) (chain
   pub count : length x ≡ mixed_for device handed
   pub exactly : GivesExactly kept (device_filters device) chain x handed
 
--- the chain has made what was handed over of some frames, and the samples are those that are mixed for n more
+-- the same by the counts alone, whatever frames were mixed
+abbrev pub HasMadeFar : {B : Type 0} → (B → Kept) → DeviceSeen → ChainOf B → ℕ → Type 0
+HasMadeFar kept device chain handed = IsJustSoFar kept (device_filters device) chain (mixed_for device handed) handed
+
+-- the chain has made what was handed over, and the samples are those that are mixed for n more
 pub record CanMake {B : Type 0} (kept : B → Kept) (device : DeviceSeen) (chain : ChainOf B)
     (samples : List ℤ) (n : ℕ) : Type 0 where
-  pub frames : List Frame
   pub handed : ℕ
-  pub made : HasMade kept device chain frames handed
+  pub made : HasMadeFar kept device chain handed
   pub enough : AreMixedFor device samples handed n
+
+-- the chain has made n more once they are handed over, however many were before
+abbrev pub MakesOnFar : {B : Type 0} → (B → Kept) → DeviceSeen → List ℤ → ℕ
+    → ChainOf B → ChainOf B → Type 0
+MakesOnFar kept device samples n old new =
+    (handed : ℕ) → HasMadeFar kept device old handed
+    → AreMixedFor device samples handed n → HasMadeFar kept device new (handed + n)
 
 -- What it means to hand over n frames, by the frames x that were mixed before and how many were handed
 -- over: the chain has made these n too, and they are the plan's next ones over all frames.

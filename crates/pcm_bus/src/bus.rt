@@ -11,7 +11,7 @@ ghost use Rattle.pcm_desk.specs.declared.limits.TheConstants.{MIX_FRAMES, RING_F
 ghost use Rattle.pcm_desk.specs.Channels.{mixed_by};
 ghost use Rattle.pcm_desk.specs.Device.{mix_frames, seen, unfiltered};
 ghost use Rattle.pcm_bus.specs.Buses.{BusStands, CanCarry, HandsOn, IsRingOf, TurnsBus};
-ghost use Rattle.pcm_bus.specs.Handovers.{CanMake, HasMade, IsPlannedBy};
+ghost use Rattle.pcm_bus.specs.Handovers.{CanMake, HasMade, IsPlannedBy, MakesOnFar};
 ghost use Rattle.pcm_bus.specs.Slots.{AreMixDue, AreLeft, MapMixes, PlayMixes};
 
 use crate::handover::hand_over;
@@ -198,6 +198,7 @@ fn hand_on<B: Feeder>(
     ensures planned { IsPlannedBy (seen tables.now device) chain.new }
     ensures ring { IsRingOf device ring.new }
     ensures out { out.new ≡ take (n * frame_bytes device.settings) ring.old.bytes }
+    ensures far { MakesOnFar B.kept (seen tables.now device) (take samples sum.old) n chain.old chain.new }
     ensures turns { HandsOn B.kept (seen tables.now device) (take samples sum.old) n
         chain.old chain.new ring.old.bytes ring.new.bytes }
 {

@@ -5,7 +5,7 @@ ghost use Rattle.pcm_num.specs.Limit.{FitsBits};
 ghost use Rattle.pcm_format.specs.Formats.{bits_of};
 ghost use Rattle.pcm_format.specs.Layouts.{channels_of};
 ghost use Rattle.pcm_desk.specs.Device.{seen};
-ghost use Rattle.pcm_bus.specs.Handovers.{CanMake, IsPlannedBy, MakesOn};
+ghost use Rattle.pcm_bus.specs.Handovers.{CanMake, IsPlannedBy, MakesOn, MakesOnFar};
 
 use pcm_chain::ChainOf;
 use pcm_desk::Device;
@@ -30,6 +30,7 @@ pub fn hand_over<'a, B: Feeder>(
     ensures planned { IsPlannedBy (seen tables.now device) chain.new }
     ensures count { length result.now ≡ n * channels_of device.settings.layout }
     ensures fits { All (FitsBits (bits_of device.settings.format)) result.now }
+    ensures far { MakesOnFar B.kept (seen tables.now device) mixed.old n chain.old chain.new }
     ensures makes { MakesOn B.kept (seen tables.now device) mixed.old n
         chain.old chain.new result.now }
 {

@@ -1,14 +1,18 @@
-use Rattle.std.proofs.Common.{◌≡◌, ◌≤◌, ◌*◌, ℕ, List, ℤ, length, take, sym, ap, ◌∙◌, subst}
+use Rattle.std.proofs.Common.{◌≡◌, ◌≤◌, ◌*◌, ℕ, List, ℤ, length, take, All, sym, ap, ◌∙◌, subst}
+use Rattle.pcm_num.specs.Limit.{FitsBits}
 use Rattle.std.proofs.lemmas.List.{length-take-le}
 use Rattle.pcm_format.specs.Layouts.{channels_of}
 use Rattle.pcm_plan.specs.Fits.{HaveTables}
 use Rattle.pcm_plan.specs.Plans.{PlanSeen}
 use Rattle.pcm_chain.specs.Chains.{plan_in}
-use Rattle.pcm_chain.specs.Gives.{CanGive, GivesOn, filling_frames}
+use Rattle.pcm_chain.specs.Gives.{CanGive, GivesOn, GivesOnFar, filling_frames}
 use Rattle.pcm_desk.specs.Device.{seen}
 use Rattle.pcm_desk.proofs.Ratios.{parent-tables}
-use Rattle.pcm_bus.proofs.Handovers.{can-give, chain-makes, made-bits, straight-length, straight-makes}
+use Rattle.pcm_desk.proofs.Straight.{straight-bits}
+use Rattle.pcm_bus.proofs.Handovers.{can-give, chain-makes, chain-makes-far, straight-far, straight-length, straight-makes, MakesFar}
+use Rattle.pcm_bus.specs.Handovers.{AreMixedFor, HasMadeFar}
 use Rattle.pcm_bus.proofs.handover.hand_over.Goals as goal
+use Rattle.pcm_bus.proofs.handover.hand_over.Goals.{After-give}
 
 -- ---- a straight device
 
@@ -22,12 +26,15 @@ returns-then-is_straight-clause-makes g c =
     straight-makes g.B.Feeder.kept (seen c.args.tables.now c.args.device) c.args.chain.now c.args.mixed.now c.args.n
     c.requires.planned (sym c.is_straight.ensures ∙ c.if-is_straight.true) c.requires.fits
 
+pub returns-then-is_straight-clause-far : goal.returns-then-is_straight-clause-far
+returns-then-is_straight-clause-far g c =
+    straight-far g.B.Feeder.kept (seen c.args.tables.now c.args.device) c.args.chain.now c.args.mixed.now c.args.n
+    c.requires.planned (sym c.is_straight.ensures ∙ c.if-is_straight.true)
+
 pub returns-then-is_straight-clause-fits : goal.returns-then-is_straight-clause-fits
 returns-then-is_straight-clause-fits g c =
-    let chain = c.args.chain.now in
-    let samples = c.args.mixed.now in
-    made-bits g.B.Feeder.kept (seen c.args.tables.now c.args.device) chain chain samples samples c.args.n
-    c.requires.planned.limits c.requires.can (returns-then-is_straight-clause-makes g c)
+    subst (λ bits. All (FitsBits bits) c.args.mixed.now)
+    (straight-bits (seen c.args.tables.now c.args.device) (sym c.is_straight.ensures ∙ c.if-is_straight.true)) c.requires.fits
 
 -- ---- another one
 
@@ -79,7 +86,24 @@ returns-clause-makes g c =
     (subst (λ (input : List ℤ). GivesOn kept tables input (filling_frames (plan_in old) out) old new given)
     c.bring_to_full.ensures c.give.ensures.gives)
 
+-- the chain goes as far as the counts say
+far-made : (g : _) (c : After-give g) (handed : ℕ) → HasMadeFar g.B.Feeder.kept (seen c.args.tables.now c.args.device) c.args.chain.now handed
+    → AreMixedFor (seen c.args.tables.now c.args.device) c.args.mixed.now handed c.args.n
+    → MakesFar g.B.Feeder.kept (seen c.args.tables.now c.args.device) c.give.new.self c.args.n handed c.give.new.out
+far-made g c handed made mixed =
+    let tables = c.args.tables.now in
+    let kept = g.B.Feeder.kept in
+    let old = c.args.chain.now in
+    let n = c.args.n in
+    let frames = c.args.frames.now in
+    let out = take (n * c.channels.result) frames in
+    let long = taken n c.channels.result (channels_of c.args.device.settings.layout) frames c.channels.ensures c.requires.room in
+    chain-makes-far kept (seen tables c.args.device) old c.give.new.self c.args.mixed.now out c.give.new.out n handed c.requires.planned long
+    (subst (λ (input : List ℤ). GivesOnFar kept tables input (filling_frames (plan_in old) out) old c.give.new.self c.give.new.out)
+    c.bring_to_full.ensures c.give.ensures.far) made mixed
+
+pub returns-clause-far : goal.returns-clause-far
+returns-clause-far g c = λ handed made mixed. (far-made g c.before handed made mixed).made
+
 pub returns-clause-fits : goal.returns-clause-fits
-returns-clause-fits g c =
-    made-bits g.B.Feeder.kept (seen c.args.tables.now c.args.device) c.args.chain.now c.give.new.self c.args.mixed.now
-    c.give.new.out c.args.n c.requires.planned.limits c.requires.can (returns-clause-makes g c)
+returns-clause-fits g c = let can = c.requires.can in (far-made g c.before can.handed can.made can.enough).bits

@@ -15,6 +15,14 @@ enough : (sum : List ℤ) (samples count channels frames : ℕ) → samples ≤ 
     → length (take samples sum) ≡ frames * channels
 enough sum samples count channels frames within is same = length-take-le samples sum within ∙ is ∙ ap (λ k. k * channels) same
 
+pub hand_on-requires-clause-can : goal.hand_on-requires-clause-can
+hand_on-requires-clause-can g c =
+    let mixed = enough c.deref_mut-3.result.now c.samples-samples.result c.mixed_by-count.result
+    (channels_of c.args.self.now.device.mix.layout) _
+    (omega (arith, c.samples-samples.ensures.sum, c.deref_mut-3.ensures.len)) c.samples-samples.ensures.value
+    c.mixed_by-count.ensures.value in
+    record { handed = c.args.handed; made = c.requires.stands.made; enough = mixed }
+
 pub returns-clause-stands : goal.returns-clause-stands
 returns-clause-stands g c =
     let made = c.requires.stands.made in
@@ -24,8 +32,7 @@ returns-clause-stands g c =
     c.mixed_by-count.ensures.value in
     record {
       planned = c.hand_on.ensures.planned;
-      made =
-          record { frames = _; made = (c.hand_on.ensures.turns made.frames c.args.handed made.made mixed).made };
+      made = c.hand_on.ensures.far c.args.handed made mixed;
     }
 
 pub returns-clause-turns : goal.returns-clause-turns
