@@ -42,13 +42,14 @@ use Rattle.pcm_play.specs.Channels.{IsPlayHere, PlayStands, IsPlayPlanned, IsPla
 use Rattle.pcm_sound.proofs.Sounding.{frames-front}
 use Rattle.pcm_play.proofs.Held.{ask-any, close-any, here-any, safe-any, written-held}
 use Rattle.pcm_desk.proofs.PlaySafeAsking.{safe-ask}
-use Rattle.pcm_play.proofs.Stands.{stands-taking, stands-empty, stands-state, nothing-more}
+use Rattle.pcm_play.proofs.Stands.{play-far, far-state, far-taking, stands-taking, stands-empty, stands-state, nothing-more}
 
 -- a channel that stays stands for what it stood for
 pub moves-nothing : {B : Type 0} (kind : B → Kind) (kept : B → Kept) (filters : Filters) (more : List ℕ) (frames : ℕ) (channel : PlayChannelOf B) → PlayMoves kind kept filters more frames channel channel
 moves-nothing kind kept filters more frames channel = record {
   kinds = λ h. h;
   planned = λ p. p;
+  far = λ f. f;
   stands = λ bytes s. subst (PlayStands kept filters channel channel.book) (sym (take_at bytes more channel.book.written s.count)) s;
   written = omega arith;
   counted = omega arith;
@@ -62,6 +63,7 @@ pub moves-ended : {B : Type 0} (kind : B → Kind) (kept : B → Kept) (filters 
 moves-ended kind kept filters more frames old new kinds planned written eaten given empty done = record {
   kinds = λ h. kinds;
   planned = planned;
+  far = λ f. play-far kept filters new [] (stands-empty kept filters new written eaten given empty);
   stands = λ bytes s. subst (PlayStands kept filters new new.book) (sym (ap (λ n. take n (bytes ++ more)) written)) (stands-empty kept filters new written eaten given empty);
   written = omega (arith, written);
   counted = omega (arith, written, done);
@@ -82,8 +84,9 @@ pub moves-state : {B : Type 0} (kind : B → Kind) (kept : B → Kept) (filters 
 moves-state {B = B} kind kept filters old new device chain ring st some = record {
   kinds = λ h. rw chain h;
   planned = λ p used. planned-as Play filters _ _ old.path new.path device (ap plan_in chain) st.settings (p held);
+  far = far-state kept filters old new chain st held;
   stands = λ bytes s. subst (PlayStands kept filters new new.book) (sym (nothing-more new.book.written bytes (s.count ∙ sym st.written)))
-      (stands-state kept filters old new bytes chain ring st.settings st.eaten st.given st.written st.drains held s);
+      (stands-state kept filters old new bytes chain ring st held s);
   written = omega (arith, st.written);
   counted = omega (arith, st.written, st.done);
   grown = omega (arith, st.written, st.done);
@@ -253,6 +256,7 @@ moves-taking {B = B} kind kept filters more mixed accepted old new device chain 
     record {
       kinds = λ h. rw chain h;
       planned = λ p used. planned-as Play filters _ _ old.path new.path device (ap plan_in chain) settings (p held);
+      far = far-taking kept filters old new chain eaten given busy held;
       stands = λ bytes s.
           let front : take new.book.written (bytes ++ more) ≡ bytes ++ take accepted more =
           ap (λ n. take n (bytes ++ more)) (written ∙ (let count = s.count in let e : old.book.written + accepted ≡ length bytes + accepted = omega arith in e)) ∙ take-append-add bytes more accepted in

@@ -1,15 +1,16 @@
 -- What a refill leaves of a channel, from what a pull of its chain means.
-use Rattle.std.proofs.Common.{◌≡◌, ℕ, ◌+◌, ◌-◌, ◌*◌, ◌<◌, ◌≤◌, Bool, true, false, List, [], ◌++◌, length, take, drop, ℤ, All, sym, ap, ◌∙◌, subst, arith}
-use Rattle.std.proofs.lemmas.List.{take-append-drop, drop_all}
+use Rattle.std.proofs.Common.{◌≡◌, ℕ, ◌+◌, ◌-◌, ◌*◌, ◌/◌, ◌<◌, ◌≤◌, Bool, true, false, List, [], ◌++◌, length, take, drop, ℤ, All, sym, ap, ◌∙◌, subst, arith}
+use Rattle.std.proofs.lemmas.List.{take-append-drop, drop_all, nil_from_length}
 use Rattle.pcm_num.specs.Limit.{FitsBits}
 use Rattle.pcm_format.specs.declared.layout.Layout.{Layout}
 use Rattle.pcm_format.specs.declared.settings.Settings.{Settings}
 use Rattle.pcm_format.specs.Formats.{bits_of}
 use Rattle.pcm_format.specs.Layouts.{channels_of}
 use Rattle.pcm_format.specs.Frames.{Frame, frame_bytes, frames, whole_frames}
-use Rattle.pcm_format.proofs.Streams.{length-frames}
+use Rattle.pcm_format.proofs.Streams.{frame_bytes-above, length-frames}
 use Rattle.pcm_format.proofs.Whole.{frames_fit}
 use Rattle.pcm_rate.specs.declared.rate.Rate.{Rate}
+use Rattle.pcm_rate.proofs.Counts.{div_more}
 use Rattle.pcm_feeder.specs.declared.stage.Gain.{Gain}
 use Rattle.pcm_feeder.specs.Filters.{Filters}
 use Rattle.pcm_feeder.specs.declared.kind.Kind.{Kind}
@@ -20,7 +21,6 @@ use Rattle.pcm_feeder.specs.Streams.{interleaved, written}
 use Rattle.pcm_mix.specs.Mix.{mixed}
 use Rattle.pcm_feeder.specs.Fades.{faded}
 use Rattle.pcm_feeder.proofs.FadedBits.{faded-fits}
-use Rattle.pcm_plan.specs.Fits.{HaveBits}
 use Rattle.pcm_plan.specs.Plans.{PlanSeen, rate_in_plan}
 use Rattle.pcm_plan.specs.Through.{outs}
 use Rattle.pcm_plan.proofs.Through.{outs-channels, length-outs}
@@ -28,7 +28,7 @@ use Rattle.pcm_chain.specs.declared.chain.ChainOf.{ChainOf}
 use Rattle.pcm_chain.specs.declared.chain.Pulled.{Pulled}
 use Rattle.pcm_chain.specs.Bits.{bits_left}
 use Rattle.pcm_chain.specs.Chains.{boxes_in, plan_in, ChainStands}
-use Rattle.pcm_chain.specs.Pulls.{waiting_frames, IsPastTheEnd, Pulls, StandsBehind}
+use Rattle.pcm_chain.specs.Pulls.{waiting_frames, GoesOnFar, IsFarBehind, IsPastTheEnd, Pulls, PullsAsFar, StandsBehind}
 use Rattle.pcm_desk.specs.declared.play_book.PlayBook.{PlayBook}
 use Rattle.pcm_desk.specs.Device.{DeviceSeen, IsDevice, device_filters, mix_settings, play_plan_between, device_quality, seen}
 use Rattle.pcm_desk.specs.PlayBooks.{frames_written, giving, is_draining, is_started, play_fill_of, refilled}
@@ -40,21 +40,61 @@ use Rattle.pcm_sound.specs.Added.{turned}
 use Rattle.pcm_sound.proofs.DeviceLists.{frames-channels}
 use Rattle.pcm_sound.proofs.Stories.{IsSafeAt, safe-mixing}
 use Rattle.pcm_play.specs.declared.channel.PlayChannelOf.{PlayChannelOf}
-use Rattle.pcm_play.specs.Channels.{PlayStands, IsPlayPlanned, PlayMoves}
-use Rattle.pcm_chain.proofs.Bits.{bits-played, interleaved-bits}
-use Rattle.pcm_chain.proofs.Waiting.{frames-waiting}
+use Rattle.pcm_play.specs.Channels.{PlayStands, IsPlayPlanned, PlayIsSoFar, PlayMoves}
+use Rattle.pcm_chain.proofs.Bits.{bits-played}
+use Rattle.pcm_chain.proofs.Waiting.{frames-waiting, length-waiting}
 use Rattle.pcm_oss.specs.declared.event.Way.TheVariants.{Play}
 use Rattle.pcm_path.proofs.Paths.{front-written, planned-as}
 use Rattle.pcm_play.proofs.Moving.{safe-at}
 use Rattle.pcm_play.proofs.Held.{started-held}
-use Rattle.pcm_play.proofs.Stands.{nothing-more, stands-pulled}
-use Rattle.pcm_play.proofs.Refills.{Goes, PullsAsCounted, giving-none, refilled-goes, mixing-some, eaten-written, length-eaten, length-waiting, pulls-counted}
+use Rattle.pcm_play.proofs.Stands.{far-pulled, nothing-more, play-far, stands-pulled}
+use Rattle.pcm_play.proofs.Refills.{Goes, PullsAsCounted, giving-none, refilled-goes, mixing-some, eaten-written, pulls-counted}
 
--- what a pull of a channel's chain says of its frames, once the run's bytes are known
-pub record PullsRun {B : Type 0} (kept : B → Kept) (device : DeviceSeen) (gain : Gain) (n : ℕ) (book : PlayBook) (bytes : List ℕ) (new : ChainOf B) (pulled : Pulled) (out_old out_new : List ℤ) : Type 0 where
+-- what a pull of a channel's chain does by the counts of its book, whatever the bytes of its run
+pub record PullsByCount {B : Type 0} (kept : B → Kept) (device : DeviceSeen) (n : ℕ) (book : PlayBook) (new : ChainOf B) (pulled : Pulled) (out : List ℤ) : Type 0 where
   pub counted : PullsAsCounted (play_rate_at device book) n book pulled
+  pub bits : All (FitsBits (bits_of (mix_settings device).format)) (take (pulled.given * channels_of (mix_settings device).layout) out)
+  pub behind : IsFarBehind kept (device_filters device) (is_draining book.state) (frames_written book - book.eaten) new book.eaten book.given pulled
+
+-- how many frames wait in a channel's ring
+waiting-counted : {B : Type 0} (filters : Filters) (old : PlayChannelOf B) → IsPlayPlanned filters old
+    → length (waiting_frames (plan_in old.path.chain) old.book.opening.settings.format old.path.ring.bytes) ≡ frames_written old.book - old.book.eaten
+waiting-counted filters old planned =
+    let book : PlayBook = old.book in
+    let settings : Settings = book.opening.settings in
+    let within = old.within in
+    let more = div_more (play_fill_of book) book.written (frame_bytes settings) book.eaten (frame_bytes-above settings) (omega (arith, within)) in
+    ap (λ (p : PlanSeen). length (waiting_frames p settings.format old.path.ring.bytes)) planned.plan_is
+    ∙ length-waiting (play_plan_between (seen filters old.path.device) settings) settings.format old.path.ring.bytes
+    ∙ ap (λ m. m / frame_bytes settings) old.fill
+    ∙ omega (arith, more)
+
+pub pulls-by-count : {B : Type 0} (kept : B → Kept) (filters : Filters) (old : PlayChannelOf B) (new : ChainOf B) (no_more : Bool) (n : ℕ) (pulled : Pulled) (out : List ℤ)
+    → is_started old.book.state ≡ true → IsPlayPlanned filters old → no_more ≡ is_draining old.book.state
+    → GoesOnFar kept filters no_more n old.book.opening.settings.format old.path.ring old.path.chain new pulled out
+    → PlayIsSoFar kept filters old → PullsByCount kept (seen filters old.path.device) n old.book new pulled out
+pulls-by-count {B = B} kept filters old new no_more n pulled out started planned drains goes far =
+    let device : DeviceSeen = seen filters old.path.device in
+    let book : PlayBook = old.book in
+    let settings : Settings = book.opening.settings in
+    let waiting : List Frame = waiting_frames (plan_in old.path.chain) settings.format old.path.ring.bytes in
+    let count = waiting-counted filters old planned in
+    let ending : GoesOnFar kept filters (is_draining book.state) n settings.format old.path.ring old.path.chain new pulled out = rw drains at goes in
+    let p = ending book.eaten far.zeros book.given (far.chain_is (started-held book.state started)) (λ some.
+    let over = far.ended some in
+    (over.0, nil_from_length waiting (omega (arith, over.1, count)))) in
+    record {
+      counted = pulls-counted (play_rate_at device book) n book pulled started (eaten-written (play_rate_at device book) book (safe-at filters old planned))
+          (subst (λ (plan : PlanSeen). PullsAsFar (rate_in_plan plan) (is_draining book.state) n book.eaten (frames_written book - book.eaten) book.given pulled) planned.plan_is
+          (subst (λ m. PullsAsFar (rate_in_plan (plan_in old.path.chain)) (is_draining book.state) n book.eaten m book.given pulled) count p.far));
+      bits = subst (λ k. All (FitsBits k) (take (pulled.given * channels_of (mix_settings device).layout) out)) (bits-played (device_filters device) (device_quality device) settings (mix_settings device))
+          (subst (λ (plan : PlanSeen). All (FitsBits (bits_left plan.stages)) (take (pulled.given * channels_of plan.target) out)) planned.plan_is p.bits);
+      behind = subst (λ m. IsFarBehind kept (device_filters device) (is_draining book.state) m new book.eaten book.given pulled) count p.behind;
+    }
+
+-- what it gives, and what its chain stands for then, once the run's bytes are known
+pub record PullsRun {B : Type 0} (kept : B → Kept) (device : DeviceSeen) (gain : Gain) (book : PlayBook) (bytes : List ℕ) (new : ChainOf B) (pulled : Pulled) (out_old out_new : List ℤ) : Type 0 where
   pub samples : out_new ≡ written (outs (play_plan_between device book.opening.settings) (device_filters device) gain (frames book.opening.settings bytes) book.given pulled.given) out_old
-  pub bits : HaveBits (bits_of (mix_settings device).format) (outs (play_plan_between device book.opening.settings) (device_filters device) gain (frames book.opening.settings bytes) book.given pulled.given)
   pub behind : StandsBehind kept (device_filters device) (is_draining book.state) (drop book.eaten (frames book.opening.settings bytes)) new (take book.eaten (frames book.opening.settings bytes)) book.given pulled
 
 -- what a pull means, for whatever its chain stands for
@@ -74,13 +114,12 @@ waiting-is kept filters old bytes planned within s =
 pub pulls-run : {B : Type 0} (kept : B → Kept) (filters : Filters) (old : PlayChannelOf B) (new : ChainOf B) (gain : Gain) (no_more : Bool) (n : ℕ) (pulled : Pulled) (out_old out_new : List ℤ) (bytes : List ℕ)
     → is_started old.book.state ≡ true → IsPlayPlanned filters old → no_more ≡ is_draining old.book.state
     → PullsFor kept filters gain no_more n (waiting_frames (plan_in old.path.chain) old.book.opening.settings.format old.path.ring.bytes) old.path.chain new pulled out_old out_new
-    → PlayStands kept filters old old.book bytes → PullsRun kept (seen filters old.path.device) gain n old.book bytes new pulled out_old out_new
+    → PlayStands kept filters old old.book bytes → PullsRun kept (seen filters old.path.device) gain old.book bytes new pulled out_old out_new
 pulls-run {B = B} kept filters old new gain no_more n pulled out_old out_new bytes started planned drains pulls s =
     let device : DeviceSeen = seen filters old.path.device in
     let book : PlayBook = old.book in
     let all : List Frame = frames book.opening.settings bytes in
     let within = eaten-written (play_rate_at device book) book (safe-at filters old planned) in
-    let whole : book.eaten ≤ whole_frames book.opening.settings (length bytes) = (let count = s.count in rw count within) in
     let at_plan : PullsFor kept (device_filters device) gain (is_draining book.state) n (drop book.eaten all) old.path.chain new pulled out_old out_new =
     rw (drains, waiting-is kept filters old bytes planned within s) at pulls in
     let long : length all ≡ frames_written book = length-frames book.opening.settings bytes ∙ ap (whole_frames book.opening.settings) s.count in
@@ -88,14 +127,8 @@ pulls-run {B = B} kept filters old new gain no_more n pulled out_old out_new byt
     let over = s.ended some in
     (over.0, drop_all book.eaten all (omega (arith, over.1, long)))) in
     record {
-      counted = pulls-counted (play_rate_at device book) n book pulled (length (take book.eaten all)) (length (drop book.eaten all)) started within
-          (length-eaten book.opening.settings bytes book.eaten whole) (length-waiting book.opening.settings bytes book.eaten ∙ ap (λ m. whole_frames book.opening.settings m - book.eaten) s.count)
-          (rw (ap (λ (plan : PlanSeen). rate_in_plan plan) planned.plan_is) at p.far);
       samples = p.frames ∙ ap (λ (plan : PlanSeen). written (outs plan (device_filters device) gain (take book.eaten all ++ drop book.eaten all) book.given pulled.given) out_old) planned.plan_is
           ∙ ap (λ fs. written (outs (play_plan_between device book.opening.settings) (device_filters device) gain fs book.given pulled.given) out_old) (take-append-drop book.eaten all);
-      bits = subst (λ k. HaveBits k (outs (play_plan_between device book.opening.settings) (device_filters device) gain all book.given pulled.given)) (bits-played (device_filters device) (device_quality device) book.opening.settings (mix_settings device))
-          (subst (λ fs. HaveBits (bits_left (play_plan_between device book.opening.settings).stages) (outs (play_plan_between device book.opening.settings) (device_filters device) gain fs book.given pulled.given)) (take-append-drop book.eaten all)
-          (subst (λ (plan : PlanSeen). HaveBits (bits_left plan.stages) (outs plan (device_filters device) gain (take book.eaten all ++ drop book.eaten all) book.given pulled.given)) planned.plan_is p.bits));
       behind = p.stands;
     }
 
@@ -145,58 +178,63 @@ turned-none device n fader book bytes sum idle =
     ∙ ap (λ (m : ℕ). mixed bits (take m sum) (samples 0) ++ drop m sum) none)
 
 -- the samples that a chain gave, which stand at the front of a buffer
-given-front : {B : Type 0} (kept : B → Kept) (device : DeviceSeen) (gain : Gain) (n : ℕ) (book : PlayBook) (bytes : List ℕ) (new : ChainOf B) (pulled : Pulled) (out_old out_new : List ℤ) → IsDevice device → IsRate book.opening.settings.rate
-    → PullsRun kept device gain n book bytes new pulled out_old out_new
+given-front : {B : Type 0} (kept : B → Kept) (device : DeviceSeen) (gain : Gain) (book : PlayBook) (bytes : List ℕ) (new : ChainOf B) (pulled : Pulled) (out_old out_new : List ℤ) → IsDevice device → IsRate book.opening.settings.rate
+    → PullsRun kept device gain book bytes new pulled out_old out_new
     → take (pulled.given * channels_of (mix_settings device).layout) out_new ≡ interleaved (outs (play_plan_between device book.opening.settings) (device_filters device) gain (frames book.opening.settings bytes) book.given pulled.given)
-given-front kept device gain n book bytes new pulled out_old out_new d rate p =
+given-front kept device gain book bytes new pulled out_old out_new d rate p =
     let c : ℕ = channels_of (mix_settings device).layout in
     let plan : PlanSeen = play_plan_between device book.opening.settings in
     let given : List Frame = outs plan (device_filters device) gain (frames book.opening.settings bytes) book.given pulled.given in
     let have = outs-channels plan (device_filters device) gain (frames book.opening.settings bytes) book.given pulled.given (plan-between-fits device book.opening.settings d rate) (frames-channels book.opening.settings bytes) in
     ap (take (pulled.given * c)) p.samples ∙ front-written c pulled.given given out_old have (length-outs plan (device_filters device) gain (frames book.opening.settings bytes) book.given pulled.given)
 
--- they have the bits of the mix, also at a gain
-pub given-fits : {B : Type 0} (kept : B → Kept) (device : DeviceSeen) (gain fader : Gain) (n : ℕ) (book : PlayBook) (bytes : List ℕ) (new : ChainOf B) (pulled : Pulled) (out_old out_new : List ℤ) (size bits : ℕ)
-    → IsDevice device → IsRate book.opening.settings.rate → IsGain fader → PullsRun kept device gain n book bytes new pulled out_old out_new → size ≡ channels_of (mix_settings device).layout → bits ≡ bits_of (mix_settings device).format
-    → All (FitsBits bits) (faded (mix_settings device).layout fader (take (pulled.given * size) out_new))
-given-fits kept device gain fader n book bytes new pulled out_old out_new size bits d rate fades p size_is bits_is =
-    let deep : ℕ = bits_of (mix_settings device).format in
-    let plan : PlanSeen = play_plan_between device book.opening.settings in
-    let given : List Frame = outs plan (device_filters device) gain (frames book.opening.settings bytes) book.given pulled.given in
-    let front = given-front kept device gain n book bytes new pulled out_old out_new d rate p in
-    let fits : All (FitsBits deep) (take (pulled.given * channels_of (mix_settings device).layout) out_new) = subst (All (FitsBits deep)) (sym front) (interleaved-bits deep given p.bits) in
-    rw (size_is, bits_is) (faded-fits deep (mix_settings device).layout fader (take (pulled.given * channels_of (mix_settings device).layout) out_new) fades fits)
+-- samples of the bits of the mix have these at a gain too
+pub given-fits : (device : DeviceSeen) (fader : Gain) (given : ℕ) (out : List ℤ) (size bits : ℕ) → IsGain fader → All (FitsBits (bits_of (mix_settings device).format)) (take (given * channels_of (mix_settings device).layout) out)
+    → size ≡ channels_of (mix_settings device).layout → bits ≡ bits_of (mix_settings device).format → All (FitsBits bits) (faded (mix_settings device).layout fader (take (given * size) out))
+given-fits device fader given out size bits fades fits size_is bits_is =
+    rw (size_is, bits_is) (faded-fits (bits_of (mix_settings device).format) (mix_settings device).layout fader (take (given * channels_of (mix_settings device).layout) out) fades fits)
 
 -- what a channel adds to a block: the samples that its chain gave, at the gain of its slot
 pub turned-pulled : {B : Type 0} (kept : B → Kept) (device : DeviceSeen) (gain fader : Gain) (n : ℕ) (book : PlayBook) (bytes : List ℕ) (new : ChainOf B) (pulled : Pulled) (out_old out_new sum acc : List ℤ) (size bits : ℕ)
-    → IsDevice device → IsRate book.opening.settings.rate → gain ≡ book_gain book → PullsRun kept device gain n book bytes new pulled out_old out_new → size ≡ channels_of (mix_settings device).layout → bits ≡ bits_of (mix_settings device).format
+    → IsDevice device → IsRate book.opening.settings.rate → gain ≡ book_gain book → PullsAsCounted (play_rate_at device book) n book pulled → PullsRun kept device gain book bytes new pulled out_old out_new → size ≡ channels_of (mix_settings device).layout → bits ≡ bits_of (mix_settings device).format
     → acc ≡ mixed bits (take (pulled.given * size) sum) (faded (mix_settings device).layout fader (take (pulled.given * size) out_new)) → acc ++ drop (pulled.given * size) sum ≡ turned device n fader book bytes sum
-turned-pulled kept device gain fader n book bytes new pulled out_old out_new sum acc size bits d rate gain_is p size_is bits_is acc_is =
+turned-pulled kept device gain fader n book bytes new pulled out_old out_new sum acc size bits d rate gain_is counted p size_is bits_is acc_is =
     let layout : Layout = (mix_settings device).layout in
     let c : ℕ = channels_of layout in
     let deep : ℕ = bits_of (mix_settings device).format in
     let onto : ℕ → List ℤ → List ℤ = λ k more. mixed deep (take (k * c) sum) (faded layout fader more) ++ drop (k * c) sum in
-    let front = given-front kept device gain n book bytes new pulled out_old out_new d rate p in
+    let front = given-front kept device gain book bytes new pulled out_old out_new d rate p in
     ap (λ a. a ++ drop (pulled.given * size) sum) acc_is
     ∙ ap (λ s. mixed bits (take (pulled.given * s) sum) (faded layout fader (take (pulled.given * s) out_new)) ++ drop (pulled.given * s) sum) size_is
     ∙ ap (λ b. mixed b (take (pulled.given * c) sum) (faded layout fader (take (pulled.given * c) out_new)) ++ drop (pulled.given * c) sum) bits_is
     ∙ ap (onto pulled.given) front
-    ∙ ap (λ count. onto count (given_samples device gain book.opening.settings bytes book.given count)) p.counted.given
+    ∙ ap (λ count. onto count (given_samples device gain book.opening.settings bytes book.given count)) counted.given
     ∙ ap (λ (g : Gain). onto (giving (play_rate_at device book) n book) (given_samples device g book.opening.settings bytes book.given (giving (play_rate_at device book) n book))) gain_is
 
 -- a channel whose run goes on, once its chain was pulled
 pub moves-pulled : {B : Type 0} (kind : B → Kind) (kept : B → Kept) (filters : Filters) (old new : PlayChannelOf B) (n : ℕ) (pulled : Pulled) (gain : Gain) (out_old out_new : List ℤ)
     → IsPlayPlanned filters old → new.path.device ≡ old.path.device → plan_in new.path.chain ≡ plan_in old.path.chain → Goes (play_rate_at (seen filters old.path.device) old.book) n old.book new.book → (HaveKinds kind (boxes_in old.path.chain) → HaveKinds kind (boxes_in new.path.chain)) → new.path.ring.bytes ≡ drop (pulled.eaten * frame_bytes old.book.opening.settings) old.path.ring.bytes
-    → ((bytes : List ℕ) → PlayStands kept filters old old.book bytes → PullsRun kept (seen filters old.path.device) gain n old.book bytes new.path.chain pulled out_old out_new) → PlayMoves kind kept filters [] n old new
-moves-pulled {B = B} kind kept filters old new n pulled gain out_old out_new planned device plan go kinds ring pulls = record {
+    → (PlayIsSoFar kept filters old → PullsByCount kept (seen filters old.path.device) n old.book new.path.chain pulled out_new)
+    → ((bytes : List ℕ) → PlayStands kept filters old old.book bytes → PullsRun kept (seen filters old.path.device) gain old.book bytes new.path.chain pulled out_old out_new) → PlayMoves kind kept filters [] n old new
+moves-pulled {B = B} kind kept filters old new n pulled gain out_old out_new planned device plan go kinds ring counts pulls = record {
   kinds = kinds;
   planned = λ p used. planned-as Play filters _ _ old.path new.path device plan go.settings planned;
+  far = λ f.
+      let p = counts f in
+      far-pulled kept filters old new rate n pulled within go p.counted p.behind;
   stands = λ bytes s.
-      let p = pulls bytes s in
+      let p = counts (play-far kept filters old bytes s) in
+      let run = pulls bytes s in
       subst (PlayStands kept filters new new.book) (sym (nothing-more new.book.written bytes (s.count ∙ sym go.written)))
-      (stands-pulled kept filters old new (play_rate_at (seen filters old.path.device) old.book) n pulled bytes (eaten-written (play_rate_at (seen filters old.path.device) old.book) old.book (safe-at filters old planned)) go p.counted ring p.behind s);
+      (stands-pulled kept filters old new rate n pulled bytes within go p.counted ring run.behind s);
   written = omega (arith, go.written);
   counted = omega (arith, go.written, go.done);
   grown = omega (arith, go.written, go.done);
   given = omega (arith, go.given);
 }
+  where
+    rate : Rate
+    rate = play_rate_at (seen filters old.path.device) old.book
+
+    within : old.book.eaten ≤ frames_written old.book
+    within = eaten-written rate old.book (safe-at filters old planned)

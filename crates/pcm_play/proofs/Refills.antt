@@ -90,13 +90,13 @@ pub record PullsAsCounted (rate : Rate) (n : ℕ) (book : PlayBook) (pulled : Pu
   pub given : pulled.given ≡ giving rate n book
   pub eaten : book.eaten + pulled.eaten ≡ eaten_after rate n book
 
-pub pulls-counted : (rate : Rate) (n : ℕ) (book : PlayBook) (pulled : Pulled) (eaten waiting : ℕ) → is_started book.state ≡ true → book.eaten ≤ frames_written book
-    → eaten ≡ book.eaten → waiting ≡ frames_written book - book.eaten
-    → PullsAsFar rate (is_draining book.state) n eaten waiting book.given pulled → PullsAsCounted rate n book pulled
-pulls-counted rate n book pulled eaten waiting started within e w far =
-    let all : eaten + waiting ≡ frames_written book = omega arith in
+pub pulls-counted : (rate : Rate) (n : ℕ) (book : PlayBook) (pulled : Pulled) → is_started book.state ≡ true → book.eaten ≤ frames_written book
+    → PullsAsFar rate (is_draining book.state) n book.eaten (frames_written book - book.eaten) book.given pulled → PullsAsCounted rate n book pulled
+pulls-counted rate n book pulled started within far =
+    let waiting : ℕ = frames_written book - book.eaten in
+    let all : book.eaten + waiting ≡ frames_written book = omega arith in
     let allowed = allowed-is rate book started in
-    let reach : cond (is_draining book.state) (len rate (eaten + waiting)) (can rate (eaten + waiting)) ≡ allowed_in rate book.state book =
+    let reach : cond (is_draining book.state) (len rate (book.eaten + waiting)) (can rate (book.eaten + waiting)) ≡ allowed_in rate book.state book =
     ap (λ k. cond (is_draining book.state) (len rate k) (can rate k)) all ∙ sym allowed in
     let went = far.eaten in
     record {

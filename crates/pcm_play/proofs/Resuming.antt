@@ -12,7 +12,7 @@ use Rattle.pcm_path.proofs.Paths.{planned-resumed}
 use Rattle.pcm_play.specs.declared.channel.PlayChannelOf.{PlayChannelOf}
 use Rattle.pcm_play.specs.Channels.{PlayStands, PlayStandsAs}
 
--- by the other's book, and with a path that goes on where the other's is, it stands for what the other stands for
+-- by the other's book, and with a path that goes on where the other's is, it is as far, and stands for what the other stands for
 stands-resumed : {B : Type 0} (kind : B → Kind) (kept : B → Kept) (mark : B → ℕ) (held : Bool) (other new : PlayChannelOf B) (old : PathOf B) → (is_play_free other.book.state ≡ false → held ≡ true)
     → other.path.device ≡ old.device → new.book ≡ other.book → PathResumes kind kept mark held other.path old new.path → PlayStandsAs kept other new
 stands-resumed kind kept mark held other new old taken device book r = record {
@@ -20,6 +20,11 @@ stands-resumed kind kept mark held other new old taken device book r = record {
   planned = λ filters served used.
       let busy = sym (ap (λ (b : PlayBook). is_play_free b.state) book) ∙ used in
       planned-resumed kind kept mark held Play filters _ _ other.path old new.path (taken busy) device (ap (λ (b : PlayBook). b.opening.settings) book) r (served busy);
+  far = λ filters f. record {
+    zeros = f.zeros;
+    chain_is = rw book (λ used. (r.goes (taken used)).far filters other.book.eaten f.zeros other.book.given (f.chain_is used));
+    ended = rw book f.ended;
+  };
   stands = λ filters bytes s. subst (λ (b : PlayBook). PlayStands kept filters new b bytes) (sym book) (record {
     book_is = book;
     count = s.count;

@@ -6,6 +6,7 @@ use Rattle.pcm_feeder.specs.declared.stage.Gain.{Gain}
 use Rattle.pcm_feeder.specs.Filters.{Filters}
 use Rattle.pcm_feeder.specs.Kept.{Kept}
 use Rattle.pcm_chain.specs.Chains.{ChainStands}
+use Rattle.pcm_chain.specs.Far.{ChainIsSoFar}
 use Rattle.pcm_desk.specs.declared.play_book.PlayBook.{PlayBook}
 use Rattle.pcm_desk.specs.Device.{seen}
 use Rattle.pcm_desk.specs.declared.device.Device.{Device}
@@ -47,16 +48,19 @@ pub record PlayStands {B : Type 0} (kept : B → Kept) (filters : Filters) (chan
       → ChainStands kept filters channel.path.chain (take book.eaten (frames book.opening.settings bytes)) zeros book.given
   pub ended : 0 < zeros → (is_draining book.state ≡ true) × (book.eaten ≡ frames_written book)
 
--- a channel stands for its book and some bytes
-pub record PlayStandsForSome {B : Type 0} (kept : B → Kept) (filters : Filters) (channel : PlayChannelOf B) : Type 0 where
-  pub bytes : List ℕ
-  pub stands : PlayStands kept filters channel channel.book bytes
+-- How far a channel is, by its book's counts, whatever bytes it was given: the chain has eaten and given as many frames as the
+-- book says. Once no more comes it is fed silence, after the last frame. Of a free one's chain nothing is said.
+pub record PlayIsSoFar {B : Type 0} (kept : B → Kept) (filters : Filters) (channel : PlayChannelOf B) : Type 0 where
+  pub zeros : ℕ
+  pub chain_is : is_play_free channel.book.state ≡ false
+      → ChainIsSoFar kept filters channel.path.chain channel.book.eaten zeros channel.book.given
+  pub ended : 0 < zeros → (is_draining channel.book.state ≡ true) × (channel.book.eaten ≡ frames_written channel.book)
 
--- each box of a channel is of its place's kind, its chain goes by its plan unless it is free, and the channel stands for some bytes
+-- each box of a channel is of its place's kind, its chain goes by its plan unless it is free, and it is as far as its book says
 pub record IsPlayReady {B : Type 0} (kind : B → Kind) (kept : B → Kept) (filters : Filters) (channel : PlayChannelOf B) : Type 0 where
   pub kinds : HasBoxes kind channel.path
   pub planned : IsPlayServed filters channel
-  pub stands : PlayStandsForSome kept filters channel
+  pub far : PlayIsSoFar kept filters channel
 
 -- whatever bytes a channel stands for, it adds what the rules say of them, at a gain, to a block of n frames
 abbrev pub AddsTo : {B : Type 0} → (B → Kept) → Filters → Device → ℕ → Gain → List ℤ → List ℤ → PlayChannelOf B → Type 0
@@ -87,11 +91,12 @@ pub record IsPlayUnopened {B : Type 0} (kind : B → Kind) (kept : B → Kept) (
   pub planned : IsPlayPlanned filters channel
   pub stands : PlayStands kept filters channel channel.book []
 
--- What an event leaves of a channel, which may take bytes from the front of `more` and give `frames` frames: whatever bytes
--- it stood for, it stands for these and what it took, or for none where its run is over.
+-- What an event leaves of a channel, which may take bytes from the front of `more` and give `frames` frames: it is as far as its
+-- book says still, and whatever bytes it stood for, it stands for these and what it took, or for none where its run is over.
 pub record PlayMoves {B : Type 0} (kind : B → Kind) (kept : B → Kept) (filters : Filters) (more : List ℕ) (frames : ℕ) (old new : PlayChannelOf B) : Type 0 where
   pub kinds : HasBoxes kind old.path → HasBoxes kind new.path
   pub planned : IsPlayServed filters old → IsPlayServed filters new
+  pub far : PlayIsSoFar kept filters old → PlayIsSoFar kept filters new
   pub stands : (bytes : List ℕ) → PlayStands kept filters old old.book bytes → PlayStands kept filters new new.book (take new.book.written (bytes ++ more))
   pub written : new.book.written ≤ old.book.written + length more
   -- with the runs before this one
@@ -100,10 +105,11 @@ pub record PlayMoves {B : Type 0} (kind : B → Kind) (kept : B → Kept) (filte
   pub grown : new.book.done + new.book.written ≤ old.book.done + old.book.written + RING_BYTES
   pub given : new.book.given ≤ old.book.given + frames
 
--- a channel stands for whatever another one stands for, by the same book, and its chain goes by the plan that the other's goes by
+-- a channel is as far as another one, and stands for whatever that stands for, by the same book, and its chain goes by the other's plan
 pub record PlayStandsAs {B : Type 0} (kept : B → Kept) (other channel : PlayChannelOf B) : Type 0 where
   pub book : channel.book ≡ other.book
   pub planned : (filters : Filters) → IsPlayServed filters other → IsPlayServed filters channel
+  pub far : (filters : Filters) → PlayIsSoFar kept filters other → PlayIsSoFar kept filters channel
   pub stands : (filters : Filters) (bytes : List ℕ) → PlayStands kept filters other other.book bytes
       → PlayStands kept filters channel channel.book bytes
 

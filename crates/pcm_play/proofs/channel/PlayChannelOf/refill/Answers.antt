@@ -12,13 +12,13 @@ use Rattle.pcm_path.proofs.Paths.{serves-as}
 use Rattle.pcm_plan.specs.Plans.{PlanSeen, rate_in_plan}
 use Rattle.pcm_plan.specs.Fits.{HaveTables}
 use Rattle.pcm_chain.specs.Chains.{plan_in}
-use Rattle.pcm_chain.proofs.Standing.{stands-fitted}
+use Rattle.pcm_chain.proofs.Far.{far-fitted}
 use Rattle.pcm_desk.specs.Device.{play_plan_between, seen}
 use Rattle.pcm_desk.specs.PlaySafe.{PlayIsSafe}
 use Rattle.pcm_desk.proofs.Ratios.{tables-between}
 use Rattle.pcm_play.proofs.Held.{started-held}
 use Rattle.pcm_play.proofs.Moving.{device-is, moves-nothing, safe-at}
-use Rattle.pcm_play.proofs.Refilling.{given-fits, pulls-run, book-mixed, book-refilled, turned-none, ring-refilled, turned-pulled, moves-pulled}
+use Rattle.pcm_play.proofs.Refilling.{given-fits, pulls-by-count, pulls-run, book-mixed, book-refilled, turned-none, ring-refilled, turned-pulled, moves-pulled}
 use Rattle.pcm_play.proofs.channel.PlayChannelOf.refill.Goals as goal
 
 pub returns-then-not-is_started-clause-moves : goal.returns-then-not-is_started-clause-moves
@@ -31,11 +31,11 @@ returns-then-not-is_started-clause-sum g c = λ bytes s. turned-none (seen c.arg
 pub pull-pulled-requires : goal.pull-pulled-requires
 pull-pulled-requires g c =
     let old = c.args.self.now in
-    let stands = c.requires.ready.stands.stands in
+    let far = c.requires.ready.far in
     let planned = c.requires.ready.planned (started-held c.args.self.now.book.state (sym c.if-not-is_started.ensures)) in
     record {
-      fitted = stands-fitted g.B.Feeder.kept c.args.tables.now old.path.chain _ stands.zeros old.book.given
-          (stands.chain_is (started-held old.book.state (sym c.if-not-is_started.ensures)));
+      fitted = far-fitted g.B.Feeder.kept c.args.tables.now old.path.chain old.book.eaten far.zeros old.book.given
+          (far.chain_is (started-held old.book.state (sym c.if-not-is_started.ensures)));
       limits = search rules;
       filters = subst (λ (p : PlanSeen). HaveTables p.stages c.args.tables.now) (sym planned.plan_is)
           (tables-between (seen c.args.tables.now old.path.device) old.book.opening.settings (device-is c.args.tables.now old planned)
@@ -81,13 +81,11 @@ pub mix_into-requires-clause-added : goal.mix_into-requires-clause-added
 mix_into-requires-clause-added g c =
     let old = c.args.self.now in
     let planned = c.requires.ready.planned (started-held c.args.self.now.book.state (sym c.if-not-is_started.ensures)) in
-    let p = pulls-run g.B.Feeder.kept c.args.tables.now old c.pull-pulled.new.self _ c.is_draining-ended.result c.args.n
-    c.pull-pulled.result c.args.frames.now c.pull-pulled.new.out c.requires.ready.stands.bytes
-    (sym c.if-not-is_started.ensures) planned c.is_draining-ended.ensures c.pull-pulled.ensures.pulls c.requires.ready.stands.stands in
-    rw c.apply_gain.ensures (given-fits g.B.Feeder.kept (seen c.args.tables.now old.path.device) c.gain_of-gain.result c.args.slot_gain
-    c.args.n old.book c.requires.ready.stands.bytes c.pull-pulled.new.self c.pull-pulled.result c.args.frames.now c.pull-pulled.new.out
-    c.channels.result c.bits.result
-    (device-is c.args.tables.now old planned) old.serves.rate c.requires.adds.limits p c.channels.ensures c.bits.ensures)
+    let p = pulls-by-count g.B.Feeder.kept c.args.tables.now old c.pull-pulled.new.self c.is_draining-ended.result c.args.n
+    c.pull-pulled.result c.pull-pulled.new.out
+    (sym c.if-not-is_started.ensures) planned c.is_draining-ended.ensures c.pull-pulled.ensures.far c.requires.ready.far in
+    rw c.apply_gain.ensures (given-fits (seen c.args.tables.now old.path.device) c.args.slot_gain c.pull-pulled.result.given
+    c.pull-pulled.new.out c.channels.result c.bits.result c.requires.adds.limits p.bits c.channels.ensures c.bits.ensures)
 
 pub invariant_of-self : goal.invariant_of-self
 invariant_of-self g c =
@@ -101,10 +99,9 @@ invariant_of-self g c =
     (device-is c.args.tables.now old planned) old.serves.rate (safe-at c.args.tables.now old planned) (sym c.if-not-is_started.ensures)
     is in
     let go = k.goes in
-    let p = pulls-run g.B.Feeder.kept c.args.tables.now old c.pull-pulled.new.self _ c.is_draining-ended.result c.args.n
-    c.pull-pulled.result c.args.frames.now c.pull-pulled.new.out c.requires.ready.stands.bytes
-    (sym c.if-not-is_started.ensures) (c.requires.ready.planned (started-held c.args.self.now.book.state (sym c.if-not-is_started.ensures)))
-    c.is_draining-ended.ensures c.pull-pulled.ensures.pulls c.requires.ready.stands.stands in
+    let p = pulls-by-count g.B.Feeder.kept c.args.tables.now old c.pull-pulled.new.self c.is_draining-ended.result c.args.n
+    c.pull-pulled.result c.pull-pulled.new.out
+    (sym c.if-not-is_started.ensures) planned c.is_draining-ended.ensures c.pull-pulled.ensures.far c.requires.ready.far in
     let r = ring-refilled device c.args.n old.book c.refilled-self.result c.pull-pulled.result k.safe go p.counted in
     let size = ap (λ (q : PlanSeen). c.pull-pulled.result.eaten * (channels_of q.source * bytes_of old.book.opening.settings.format))
     planned.plan_is in
@@ -145,23 +142,26 @@ returns-clause-moves g c =
     (ap (λ (ring : Ring). ring.bytes) c.pull-pulled.ensures.leaves.ring
     ∙ ap (λ (q : PlanSeen). drop (c.pull-pulled.result.eaten * (channels_of q.source * bytes_of old.book.opening.settings.format))
     old.path.ring.bytes) planned.plan_is)
+    (pulls-by-count g.B.Feeder.kept c.args.tables.now old c.pull-pulled.new.self c.is_draining-ended.result c.args.n c.pull-pulled.result
+    c.pull-pulled.new.out (sym c.if-not-is_started.ensures) planned c.is_draining-ended.ensures c.pull-pulled.ensures.far)
     (λ bytes s. pulls-run g.B.Feeder.kept c.args.tables.now old c.pull-pulled.new.self _ c.is_draining-ended.result c.args.n
     c.pull-pulled.result c.args.frames.now c.pull-pulled.new.out bytes
-    (sym c.if-not-is_started.ensures) (c.requires.ready.planned (started-held c.args.self.now.book.state (sym c.if-not-is_started.ensures)))
-    c.is_draining-ended.ensures c.pull-pulled.ensures.pulls s)
+    (sym c.if-not-is_started.ensures) planned c.is_draining-ended.ensures c.pull-pulled.ensures.pulls s)
 
 pub returns-clause-sum : goal.returns-clause-sum
 returns-clause-sum g c = λ bytes s.
     let old = c.args.self.now in
-    let p = pulls-run g.B.Feeder.kept c.args.tables.now old c.pull-pulled.new.self _ c.is_draining-ended.result c.args.n
+    let planned = c.requires.ready.planned (started-held c.args.self.now.book.state (sym c.if-not-is_started.ensures)) in
+    let p = pulls-by-count g.B.Feeder.kept c.args.tables.now old c.pull-pulled.new.self c.is_draining-ended.result c.args.n
+    c.pull-pulled.result c.pull-pulled.new.out
+    (sym c.if-not-is_started.ensures) planned c.is_draining-ended.ensures c.pull-pulled.ensures.far c.requires.ready.far in
+    let run = pulls-run g.B.Feeder.kept c.args.tables.now old c.pull-pulled.new.self _ c.is_draining-ended.result c.args.n
     c.pull-pulled.result c.args.frames.now c.pull-pulled.new.out bytes
-    (sym c.if-not-is_started.ensures) (c.requires.ready.planned (started-held c.args.self.now.book.state (sym c.if-not-is_started.ensures)))
-    c.is_draining-ended.ensures c.pull-pulled.ensures.pulls s in
+    (sym c.if-not-is_started.ensures) planned c.is_draining-ended.ensures c.pull-pulled.ensures.pulls s in
     turned-pulled g.B.Feeder.kept (seen c.args.tables.now old.path.device) c.gain_of-gain.result c.args.slot_gain c.args.n old.book bytes
     c.pull-pulled.new.self c.pull-pulled.result c.args.frames.now c.pull-pulled.new.out c.args.sum.now c.mix_into.new.acc
-    c.channels.result c.bits.result
-    (device-is c.args.tables.now old (c.requires.ready.planned (started-held c.args.self.now.book.state (sym c.if-not-is_started.ensures))))
-    old.serves.rate c.gain_of-gain.ensures.value p c.channels.ensures c.bits.ensures
+    c.channels.result c.bits.result (device-is c.args.tables.now old planned) old.serves.rate c.gain_of-gain.ensures.value p.counted run
+    c.channels.ensures c.bits.ensures
     (c.mix_into.ensures.value ∙ ap (mixed c.bits.result (take (c.pull-pulled.result.given * c.channels.result) c.args.sum.now))
     c.apply_gain.ensures)
 
