@@ -43,6 +43,7 @@ use Rattle.pcm_desk.proofs.MapAsking.{map-asked-kept, map-asked-rate}
 use Rattle.pcm_desk.proofs.MapSafe.{map-safe-asked}
 use Rattle.pcm_desk.proofs.MapLeaves.{Leaves, Stays, map-asked-leaves}
 use Rattle.pcm_map.proofs.Books.{mixing-gives, safe-served}
+use Rattle.pcm_map.proofs.Far.{map-far}
 use Rattle.pcm_map.proofs.Held.{running-held}
 
 -- ---- what a channel stands for
@@ -76,6 +77,7 @@ pub moves-nothing : {B : Type 0} (kind : B → Kind) (kept : B → Kept) (filter
 moves-nothing kind kept filters more frames channel = record {
   kinds = λ h. h;
   planned = λ p. p;
+  far = λ h. h;
   stands = λ bytes s. subst (MapStands kept filters channel channel.book) (sym (take_at bytes more (taken_of channel.book) s.count)) s;
   given = omega arith;
 }
@@ -86,6 +88,7 @@ pub moves-kept : {B : Type 0} (kind : B → Kind) (kept : B → Kept) (filters :
 moves-kept kind kept filters more frames old new device chain settings eaten given held = record {
   kinds = λ h. rw chain h;
   planned = λ p used. planned-as Map filters _ _ old.path new.path device (ap plan_in chain) settings (p (held used));
+  far = λ h used. rw (chain, eaten, given) (h (held used));
   stands = λ bytes s.
       let now = stands-kept kept filters old new bytes chain settings eaten given held s in
       subst (MapStands kept filters new new.book) (sym (take_at bytes more (taken_of new.book) now.count)) now;
@@ -98,6 +101,7 @@ pub moves-ended : {B : Type 0} (kind : B → Kind) (kept : B → Kept) (filters 
 moves-ended kind kept filters more frames old new kinds planned eaten given empty = record {
   kinds = λ h. kinds;
   planned = planned;
+  far = λ h. map-far kept filters new [] (stands-empty kept filters new eaten given empty);
   stands = λ bytes s. subst (MapStands kept filters new new.book) (sym (none bytes)) (stands-empty kept filters new eaten given empty);
   given = omega (arith, given);
 }
@@ -152,6 +156,7 @@ moves-given {B = B} kind kept filters n old new samples some running g =
     record {
       kinds = g.kinds;
       planned = λ p used. planned-as Map filters _ _ old.path new.path g.device g.plan (ap (λ (b : MapBook). b.opening.settings) g.book) (p (running-held old.book.state running));
+      far = g.far;
       stands = λ bytes s.
           let now = g.stands bytes s in
           subst (MapStands kept filters new new.book)

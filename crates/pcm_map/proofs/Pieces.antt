@@ -1,8 +1,6 @@
 -- What a pull of a channel's chain gives of the bytes that were taken of its area, and what two pieces give together.
-use Rattle.std.proofs.Common.{◌≡◌, ℕ, ◌+◌, ◌-◌, ◌*◌, ◌≤◌, true, false, List, [], ◌++◌, length, take, drop, ℤ, All, inl, inr, refl, sym, ap, ◌∙◌, subst, arith, length-append}
-use Rattle.std.proofs.Math.Nat.{mul_comm, mul-div_cancel, mul-le-mul_right, mul-sub}
+use Rattle.std.proofs.Common.{◌≡◌, ℕ, ◌+◌, ◌-◌, ◌*◌, ◌≤◌, true, false, List, [], ◌++◌, length, take, drop, ℤ, All, refl, sym, ap, ◌∙◌, subst, arith, length-append}
 use Rattle.std.proofs.Math.Seq.{take-append-add}
-use Rattle.std.proofs.lemmas.Bool.{cases_lt}
 use Rattle.std.proofs.lemmas.List.{append-nil, append_assoc, drop_all, drop_at, length-drop, length-take-le, take_all, take-append-drop}
 use Rattle.std.proofs.lemmas.List.Elements.{All-nil, All-append}
 use Rattle.std.proofs.lemmas.List.Concat.{flat_map-append}
@@ -13,10 +11,10 @@ use Rattle.pcm_format.specs.declared.settings.Settings.{Settings}
 use Rattle.pcm_format.specs.Formats.{bits_of}
 use Rattle.pcm_format.specs.Frames.{Frame, frame_bytes, frames, whole_frames}
 use Rattle.pcm_format.specs.Layouts.{channels_of}
-use Rattle.pcm_format.proofs.Streams.{frame_bytes-above, length-frames}
+use Rattle.pcm_format.proofs.Streams.{length-frames}
+use Rattle.pcm_format.proofs.Whole.{whole_frames-mono}
 use Rattle.pcm_rate.specs.declared.rate.Rate.{Rate}
-use Rattle.pcm_rate.specs.Rates.{IsRatio, can, need}
-use Rattle.pcm_rate.proofs.Counts.{can-greatest, need_grows}
+use Rattle.pcm_rate.specs.Rates.{can, need}
 use Rattle.pcm_oss.specs.declared.fragments.TheConstants.{RING_BYTES}
 use Rattle.pcm_ring.specs.Ring.{Ring, empty_ring}
 use Rattle.pcm_feeder.specs.declared.kind.Kind.{Kind}
@@ -25,21 +23,21 @@ use Rattle.pcm_feeder.specs.Filters.{Filters}
 use Rattle.pcm_feeder.specs.Kept.{Kept}
 use Rattle.pcm_feeder.specs.Racks.{HaveKinds}
 use Rattle.pcm_feeder.specs.Streams.{interleaved, written}
-use Rattle.pcm_plan.specs.Fits.{HaveBits, IsPlan}
+use Rattle.pcm_plan.specs.Fits.{IsPlan}
 use Rattle.pcm_plan.specs.Plans.{PlanSeen, rate_in_plan}
 use Rattle.pcm_plan.specs.Through.{outs}
 use Rattle.pcm_plan.proofs.Through.{length-outs, outs-add, outs-append, outs-channels}
 use Rattle.pcm_chain.specs.declared.chain.ChainOf.{ChainOf}
 use Rattle.pcm_chain.specs.declared.chain.Pulled.{Pulled}
-use Rattle.pcm_chain.specs.Bits.{bits_left}
 use Rattle.pcm_chain.specs.Chains.{boxes_in, plan_in, ChainStands}
-use Rattle.pcm_chain.specs.Pulls.{waiting_frames, PullsAsFar, PullsOn}
-use Rattle.pcm_chain.specs.Rings.{taken_bytes, without_bytes}
-use Rattle.pcm_chain.proofs.Bits.{bits-played, interleaved-bits}
+use Rattle.pcm_chain.specs.Far.{ChainIsSoFar}
+use Rattle.pcm_chain.specs.Pulls.{waiting_frames, PullsOn}
+use Rattle.pcm_chain.specs.Rings.{without_bytes}
+use Rattle.pcm_chain.proofs.Pulling.{no-silence-behind}
 use Rattle.pcm_chain.proofs.Waiting.{frames-waiting}
 use Rattle.pcm_desk.specs.declared.device.Device.{Device}
 use Rattle.pcm_desk.specs.declared.map_book.MapBook.{MapBook}
-use Rattle.pcm_desk.specs.Device.{DeviceSeen, device_filters, mix_settings, play_plan_between, device_quality, seen}
+use Rattle.pcm_desk.specs.Device.{DeviceSeen, device_filters, play_plan_between, seen}
 use Rattle.pcm_desk.specs.RunStates.{is_running}
 use Rattle.pcm_desk.specs.MapBooks.{map_gives, taken_of}
 use Rattle.pcm_desk.specs.Channels.{map_rate_at}
@@ -48,12 +46,13 @@ use Rattle.pcm_sound.specs.Areas.{area_bytes}
 use Rattle.pcm_sound.specs.Gains.{map_gain}
 use Rattle.pcm_sound.specs.Given.{given_samples}
 use Rattle.pcm_map.specs.declared.channel.MapChannelOf.{MapChannelOf}
-use Rattle.pcm_map.specs.Channels.{area_of, CountsFit, IsMapPlanned, IsMapReady, MapStands, MapStandsForSome}
+use Rattle.pcm_map.specs.Channels.{area_of, CountsFit, IsMapPlanned, IsMapReady, MapStands}
 use Rattle.pcm_map.specs.Pieces.{book_giving, taken_for, MapGives}
 use Rattle.pcm_oss.specs.declared.event.Way.TheVariants.{Map}
 use Rattle.pcm_path.proofs.Paths.{planned-as, front-written}
 use Rattle.pcm_map.proofs.Areas.{area-add, length-area_bytes}
-use Rattle.pcm_map.proofs.Books.{counts-fewer, given-allowed, gives-add, gives-none, planned-fits, planned-near, planned-rate, planned-safe, taken-grows}
+use Rattle.pcm_map.proofs.Books.{counts-fewer, given-allowed, gives-add, gives-none, planned-fits, planned-near, planned-safe, taken-grows}
+use Rattle.pcm_map.proofs.Far.{between-bytes, frames-eaten, PullsFar}
 use Rattle.pcm_map.proofs.Held.{running-held}
 use Rattle.pcm_sound.proofs.DeviceLists.{frames-channels}
 use Rattle.pcm_sound.proofs.Sounding.{frames-append, frames-front}
@@ -90,97 +89,49 @@ between-add area first middle last before behind =
 
 -- ---- a pull
 
--- how far a pull goes that is handed just what its outputs need
-far-enough : (rate : Rate) (n eaten waiting given : ℕ) (pulled : Pulled) → IsRatio rate → eaten ≡ need rate given → waiting ≡ need rate (given + n) - need rate given → PullsAsFar rate false n eaten waiting given pulled
-    → (pulled.given ≡ n) × (pulled.eaten ≡ waiting)
-far-enough rate n eaten waiting given pulled ratio all rest far =
-    let grows = need_grows rate given (given + n) ratio.dst (omega arith) in
-    let sum : eaten + waiting ≡ need rate (given + n) = omega (arith, all, rest, grows) in
-    let allowed = (can-greatest rate ratio.src ratio.dst (given + n) (eaten + waiting)).0 (omega (arith, sum)) in
-    let went = far.given in
-    let took = far.eaten in
-    (omega (arith, went, allowed), omega (arith, took, sum))
-
 -- what a pull says of a channel's frames, once the bytes that it had taken are known
-pub record PullsPiece {B : Type 0} (kept : B → Kept) (filters : Filters) (gain : Gain) (n : ℕ) (old : MapChannelOf B) (bytes : List ℕ) (new : ChainOf B) (pulled : Pulled) (out_old out_new : List ℤ) : Type 0 where
-  pub all : pulled.eaten * frame_bytes old.book.opening.settings ≡ length (taken_for filters n old)
+pub record PullsPiece {B : Type 0} (kept : B → Kept) (filters : Filters) (gain : Gain) (n : ℕ) (old : MapChannelOf B) (bytes : List ℕ) (new : ChainOf B) (out_old out_new : List ℤ) : Type 0 where
   pub samples : out_new ≡ written (outs (play_plan_between (seen filters old.path.device) old.book.opening.settings) filters gain (frames old.book.opening.settings (bytes ++ taken_for filters n old)) old.book.given n) out_old
-  pub bits : HaveBits (bits_of old.path.device.mix.format) (outs (play_plan_between (seen filters old.path.device) old.book.opening.settings) filters gain (frames old.book.opening.settings (bytes ++ taken_for filters n old)) old.book.given n)
   pub chain_is : ChainStands kept filters new (frames old.book.opening.settings (bytes ++ taken_for filters n old)) 0 (old.book.given + n)
 
-pub pulls-piece : {B : Type 0} (kept : B → Kept) (filters : Filters) (gain : Gain) (n : ℕ) (old : MapChannelOf B) (ring : Ring) (new : ChainOf B) (pulled : Pulled) (out_old out_new : List ℤ) → IsMapPlanned filters old → is_running old.book.state ≡ true
-    → ring.bytes ≡ taken_for filters n old → PullsOn kept filters gain false n old.book.opening.settings.format ring old.path.chain new pulled out_old out_new
-    → (bytes : List ℕ) → MapStands kept filters old old.book bytes → PullsPiece kept filters gain n old bytes new pulled out_old out_new
-pulls-piece {B = B} kept filters gain n old ring new pulled out_old out_new planned running taken pulls bytes s =
-    let device : DeviceSeen = seen filters old.path.device in
+pulls-piece : {B : Type 0} (kept : B → Kept) (filters : Filters) (gain : Gain) (n : ℕ) (old : MapChannelOf B) (ring : Ring) (new : ChainOf B) (pulled : Pulled) (out_old out_new : List ℤ) → IsMapPlanned filters old → is_running old.book.state ≡ true
+    → ring.bytes ≡ taken_for filters n old → PullsOn kept filters gain false n old.book.opening.settings.format ring old.path.chain new pulled out_old out_new → PullsFar kept filters n old ring new pulled out_new
+    → (bytes : List ℕ) → MapStands kept filters old old.book bytes → PullsPiece kept filters gain n old bytes new out_old out_new
+pulls-piece kept filters gain n old ring new pulled out_old out_new planned running taken pulls far bytes s =
     let book : MapBook = old.book in
     let settings : Settings = book.opening.settings in
-    let z : ℕ = frame_bytes settings in
-    let plan : PlanSeen = play_plan_between device settings in
-    let rate : Rate = map_rate_at device book in
-    let near = planned-near filters old planned in
-    let ratio = near.ratio in
-    let safe = planned-safe filters old planned in
-    let counted = safe.taken in
+    let plan : PlanSeen = play_plan_between (seen filters old.path.device) settings in
     let more : List ℕ = taken_for filters n old in
-    let m : ℕ = need rate (book.given + n) in
-    let grows = need_grows rate book.given (book.given + n) ratio.dst (omega arith) in
-    let fewer : book.eaten ≤ m = omega (arith, counted, grows) in
-    let up = mul-le-mul_right {m = book.eaten} {n = m} z fewer in
-    let long : length more ≡ m * z - book.eaten * z = length-area_bytes (area_of old) (taken_of book) (taken_of (book_giving filters n old) - taken_of book) in
-    let count = s.count in
-    let whole_bytes : length (bytes ++ more) ≡ m * z = omega (arith, length-append bytes more, long, count, up) in
-    let whole : whole_frames settings (length (bytes ++ more)) ≡ m = ap (whole_frames settings) whole_bytes ∙ mul-div_cancel m (frame_bytes-above settings) in
-    let eaten_frames : whole_frames settings (length bytes) ≡ book.eaten = ap (whole_frames settings) count ∙ mul-div_cancel book.eaten (frame_bytes-above settings) in
     let list : List Frame = frames settings (bytes ++ more) in
     let x : List Frame = frames settings bytes in
     let waiting : List Frame = waiting_frames (plan_in old.path.chain) settings.format ring.bytes in
+    let long = frames-eaten kept filters old bytes s in
+    let whole : whole_frames settings (length bytes) ≡ book.eaten = sym (length-frames settings bytes) ∙ long in
+    let fewer = whole_frames-mono settings (length bytes) (length (bytes ++ more)) (omega (arith, length-append bytes more)) in
     let waiting_is : waiting ≡ drop book.eaten list =
     ap (λ (p : PlanSeen). waiting_frames p settings.format ring.bytes) planned.plan_is
-    ∙ ap (waiting_frames plan settings.format) (taken ∙ sym (drop_at bytes more (book.eaten * z) count))
+    ∙ ap (waiting_frames plan settings.format) (taken ∙ sym (drop_at bytes more (taken_of book) s.count))
     ∙ frames-waiting settings (bytes ++ more) book.eaten (omega (arith, whole, fewer)) in
     let x_is : x ≡ take book.eaten list =
-    sym (frames-front settings bytes more book.eaten (omega (arith, eaten_frames)) ∙ take_all book.eaten x (omega (arith, length-frames settings bytes, eaten_frames))) in
+    sym (frames-front settings bytes more book.eaten (omega (arith, whole)) ∙ take_all book.eaten x (omega (arith, long))) in
     let joined : x ++ waiting ≡ list = ap (λ (front : List Frame). front ++ waiting) x_is ∙ ap (λ (rest : List Frame). take book.eaten list ++ rest) waiting_is ∙ take-append-drop book.eaten list in
-    let rest_long : length waiting ≡ m - need rate book.given =
-    ap (λ (rest : List Frame). length rest) waiting_is ∙ length-drop book.eaten list ∙ (let e : length list - book.eaten ≡ m - need rate book.given = omega (arith, length-frames settings (bytes ++ more), whole, counted) in e) in
-    let x_long : length x ≡ need rate book.given = length-frames settings bytes ∙ eaten_frames ∙ counted in
+    let taken_all : take pulled.eaten waiting ≡ waiting = take_all pulled.eaten waiting (omega (arith, far.eaten)) in
     let p = pulls x 0 book.given (s.chain_is (running-held book.state running)) (λ some. absurd (omega arith)) in
-    let far : PullsAsFar rate false n (length x) (length waiting) book.given pulled = subst (λ (r : Rate). PullsAsFar r false n (length x) (length waiting) book.given pulled) (planned-rate filters old planned) p.far in
-    let went = far-enough rate n (length x) (length waiting) book.given pulled ratio x_long rest_long far in
-    let taken_all : take pulled.eaten waiting ≡ waiting = take_all pulled.eaten waiting (omega (arith, went.1)) in
-    let behind = p.stands in
-    let none_fed : behind.zeros ≡ 0 = elim (cases_lt 0 behind.zeros) [
-      | inl some ↦ (let over = behind.ends some in let clash : false ≡ true = over.0 in cc)
-      | inr none ↦ omega arith
-    ] in
-    let width : m ≡ book.eaten + pulled.eaten = omega (arith, went.1, rest_long, counted, grows) in
     record {
-      all = omega (arith, long, ap (λ (k : ℕ). k * z) width);
       samples = p.frames
           ∙ ap (λ (q : PlanSeen). written (outs q filters gain (x ++ waiting) book.given pulled.given) out_old) planned.plan_is
           ∙ ap (λ (fs : List Frame). written (outs plan filters gain fs book.given pulled.given) out_old) joined
-          ∙ ap (λ (k : ℕ). written (outs plan filters gain list book.given k) out_old) went.0;
-      bits = subst (λ (deep : ℕ). HaveBits deep (outs plan filters gain list book.given n)) (bits-played filters (device_quality device) settings (mix_settings device))
-          (subst (λ (k : ℕ). HaveBits (bits_left plan.stages) (outs plan filters gain list book.given k)) went.0
-          (subst (λ (fs : List Frame). HaveBits (bits_left plan.stages) (outs plan filters gain fs book.given pulled.given)) joined
-          (subst (λ (q : PlanSeen). HaveBits (bits_left q.stages) (outs q filters gain (x ++ waiting) book.given pulled.given)) planned.plan_is p.bits)));
-      chain_is = subst (λ (zeros : ℕ). ChainStands kept filters new list zeros (book.given + n)) none_fed
-          (subst (λ (k : ℕ). ChainStands kept filters new list behind.zeros (book.given + k)) went.0
-          (subst (λ (fs : List Frame). ChainStands kept filters new fs behind.zeros (book.given + pulled.given)) (ap (λ (rest : List Frame). x ++ rest) taken_all ∙ joined) behind.stands));
+          ∙ ap (λ (k : ℕ). written (outs plan filters gain list book.given k) out_old) far.given;
+      chain_is = subst (λ (k : ℕ). ChainStands kept filters new list 0 (book.given + k)) far.given
+          (subst (λ (fs : List Frame). ChainStands kept filters new fs 0 (book.given + pulled.given)) (ap (λ (rest : List Frame). x ++ rest) taken_all ∙ joined)
+          (no-silence-behind kept filters waiting new x book.given pulled p.stands));
     }
-
--- no byte is left in the ring
-pub ring-empty : {B : Type 0} (kept : B → Kept) (filters : Filters) (gain : Gain) (n : ℕ) (old : MapChannelOf B) (bytes : List ℕ) (new : ChainOf B) (pulled : Pulled) (out_old out_new : List ℤ) → IsMapPlanned filters old
-    → PullsPiece kept filters gain n old bytes new pulled out_old out_new → taken_bytes (plan_in old.path.chain) old.book.opening.settings.format pulled.eaten ≡ length (taken_for filters n old)
-ring-empty kept filters gain n old bytes new pulled out_old out_new planned p =
-    ap (λ (q : PlanSeen). taken_bytes q old.book.opening.settings.format pulled.eaten) planned.plan_is ∙ p.all
 
 -- the bytes of the frames that a piece needs
 taken-counted : (area list : List ℕ) (from taken count a b z : ℕ) → list ≡ area → from ≡ taken → count ≡ (b - a) * z → area_bytes list from count ≡ area_bytes area taken (b * z - a * z)
 taken-counted area list from taken count a b z same place counted =
     ap (λ (bytes : List ℕ). area_bytes bytes from count) same ∙ ap (λ (k : ℕ). area_bytes area k count) place
-    ∙ ap (area_bytes area taken) (counted ∙ mul_comm (b - a) z ∙ mul-sub z b a ∙ ap (λ (x : ℕ). x - z * a) (mul_comm z b) ∙ ap (λ (y : ℕ). b * z - y) (mul_comm z a))
+    ∙ ap (area_bytes area taken) (counted ∙ between-bytes a b z)
 
 -- the ring before a pull: just these wait in it
 pub ring-filled : {B : Type 0} (filters : Filters) (n : ℕ) (old : MapChannelOf B) (new : MapBook) (items : List ℕ) (size from z : ℕ) (ring : Ring) → new ≡ book_giving filters n old → size ≡ ring_bytes old.book.opening → items ≡ fixed_items old.area
@@ -210,10 +161,10 @@ put-behind a list piece =
     ∙ ap (λ (rest : List ℤ). take a list ++ rest) (append-nil piece)
 
 -- the samples of a piece, at the front of a buffer
-piece-front : {B : Type 0} (kept : B → Kept) (filters : Filters) (gain : Gain) (n : ℕ) (old : MapChannelOf B) (bytes : List ℕ) (new : ChainOf B) (pulled : Pulled) (out_old out_new : List ℤ) → IsMapPlanned filters old
-    → PullsPiece kept filters gain n old bytes new pulled out_old out_new
+piece-front : {B : Type 0} (kept : B → Kept) (filters : Filters) (gain : Gain) (n : ℕ) (old : MapChannelOf B) (bytes : List ℕ) (new : ChainOf B) (out_old out_new : List ℤ) → IsMapPlanned filters old
+    → PullsPiece kept filters gain n old bytes new out_old out_new
     → take (n * channels_of old.path.device.mix.layout) out_new ≡ interleaved (outs (play_plan_between (seen filters old.path.device) old.book.opening.settings) filters gain (frames old.book.opening.settings (bytes ++ taken_for filters n old)) old.book.given n)
-piece-front kept filters gain n old bytes new pulled out_old out_new planned p =
+piece-front kept filters gain n old bytes new out_old out_new planned p =
     let settings : Settings = old.book.opening.settings in
     let size : ℕ = channels_of old.path.device.mix.layout in
     let plan : PlanSeen = play_plan_between (seen filters old.path.device) settings in
@@ -226,8 +177,9 @@ piece-front kept filters gain n old bytes new pulled out_old out_new planned p =
 pub piece-gives : {B : Type 0} (kind : B → Kind) (kept : B → Kept) (filters : Filters) (n : ℕ) (old new : MapChannelOf B) (ring : Ring) (pulled : Pulled) (gain : Gain) (out_old out_new : List ℤ) → IsMapPlanned filters old → is_running old.book.state ≡ true
     → new.path.device ≡ old.path.device → new.area ≡ old.area → plan_in new.path.chain ≡ plan_in old.path.chain → (HaveKinds kind (boxes_in old.path.chain) → HaveKinds kind (boxes_in new.path.chain))
     → new.book ≡ book_giving filters n old → ring.bytes ≡ taken_for filters n old → gain ≡ map_gain old.book
-    → PullsOn kept filters gain false n old.book.opening.settings.format ring old.path.chain new.path.chain pulled out_old out_new → MapStandsForSome kept filters old → MapGives kind kept filters n old new out_new
-piece-gives {B = B} kind kept filters n old new ring pulled gain out_old out_new planned running device area plan kinds book taken gain_is pulls some =
+    → PullsOn kept filters gain false n old.book.opening.settings.format ring old.path.chain new.path.chain pulled out_old out_new → PullsFar kept filters n old ring new.path.chain pulled out_new
+    → MapGives kind kept filters n old new out_new
+piece-gives kind kept filters n old new ring pulled gain out_old out_new planned running device area plan kinds book taken gain_is pulls far =
     let settings : Settings = old.book.opening.settings in
     let d : DeviceSeen = seen filters old.path.device in
     let rate : Rate = map_rate_at d old.book in
@@ -239,20 +191,19 @@ piece-gives {B = B} kind kept filters n old new ring pulled gain out_old out_new
       area = area;
       plan = plan;
       kinds = kinds;
+      far = λ h used. subst (λ (b : MapBook). ChainIsSoFar kept filters new.path.chain b.eaten 0 b.given) (sym book) far.chain_is;
       stands = λ bytes s.
-          let p = pulls-piece kept filters gain n old ring new.path.chain pulled out_old out_new planned running taken pulls bytes s in
+          let p = pulls-piece kept filters gain n old ring new.path.chain pulled out_old out_new planned running taken pulls far bytes s in
           record {
             book_is = refl;
             count = length-append bytes more ∙ (let count = s.count in let long = length-area_bytes (area_of old) (taken_of old.book) (taken_of (book_giving filters n old) - taken_of old.book) in
                 let e : length bytes + length more ≡ taken_of (book_giving filters n old) = omega (arith, count, long, grows) in e) ∙ ap taken_of (sym book);
             chain_is = λ used. subst (λ (b : MapBook). ChainStands kept filters new.path.chain (frames b.opening.settings (bytes ++ more)) 0 b.given) (sym book) p.chain_is;
           };
-      fits =
-          let p = pulls-piece kept filters gain n old ring new.path.chain pulled out_old out_new planned running taken pulls some.bytes some.stands in
-          subst (All (FitsBits (bits_of old.path.device.mix.format))) (sym (piece-front kept filters gain n old some.bytes new.path.chain pulled out_old out_new planned p)) (interleaved-bits (bits_of old.path.device.mix.format) _ p.bits);
+      fits = far.bits;
       samples_are = λ bytes s.
-          let p = pulls-piece kept filters gain n old ring new.path.chain pulled out_old out_new planned running taken pulls bytes s in
-          piece-front kept filters gain n old bytes new.path.chain pulled out_old out_new planned p
+          let p = pulls-piece kept filters gain n old ring new.path.chain pulled out_old out_new planned running taken pulls far bytes s in
+          piece-front kept filters gain n old bytes new.path.chain out_old out_new planned p
           ∙ ap (λ (g : Gain). given_samples d g settings (bytes ++ more) old.book.given n) gain_is;
     }
 
@@ -272,6 +223,7 @@ gives-nothing kind kept filters channel samples planned =
       area = refl;
       plan = refl;
       kinds = λ h. h;
+      far = λ h. h;
       stands = λ bytes s. subst (MapStands kept filters channel channel.book) (sym (ap (λ (more : List ℕ). bytes ++ more) nothing ∙ append-nil bytes)) s;
       fits = subst (λ (k : ℕ). All (FitsBits (bits_of channel.path.device.mix.format)) (take k samples)) (sym start) (All-nil (FitsBits (bits_of channel.path.device.mix.format)));
       samples_are = λ bytes s. ap (λ (k : ℕ). take k samples) start;
@@ -316,6 +268,7 @@ gives-more {B = B} kind kept filters a b old mid new samples piece planned g h r
       area = h.area ∙ g.area;
       plan = h.plan ∙ g.plan;
       kinds = λ have. h.kinds (g.kinds have);
+      far = λ far. h.far (g.far far);
       stands = λ bytes s. subst (MapStands kept filters new new.book) (append_assoc bytes (taken_for filters a old) (taken_for filters b mid) ∙ ap (λ (more : List ℕ). bytes ++ more) (sym all))
           (h.stands (bytes ++ taken_for filters a old) (g.stands bytes s));
       fits =
@@ -350,7 +303,7 @@ pub ready-given : {B : Type 0} (kind : B → Kind) (kept : B → Kept) (filters 
 ready-given kind kept filters n old new samples running ready g = record {
   kinds = g.kinds ready.kinds;
   planned = λ used. planned-as Map filters _ _ old.path new.path g.device g.plan (ap (λ (book : MapBook). book.opening.settings) g.book) (ready.planned (running-held old.book.state running));
-  stands = record { bytes = ready.stands.bytes ++ taken_for filters n old; stands = g.stands ready.stands.bytes ready.stands.stands };
+  far = g.far ready.far;
 }
 
 -- and its counts have room for the rest

@@ -3,6 +3,7 @@ use Rattle.std.proofs.Common.{◌≡◌, ℕ, Bool, true, false, inl, inr, sym, 
 use Rattle.std.proofs.lemmas.Bool.{cases_Bool}
 use Rattle.pcm_feeder.specs.declared.kind.Kind.{Kind}
 use Rattle.pcm_feeder.specs.Kept.{Kept}
+use Rattle.pcm_chain.specs.Far.{ChainIsSoFar}
 use Rattle.pcm_oss.specs.declared.event.Way.TheVariants.{Map}
 use Rattle.pcm_plan.specs.Plans.{PlanSeen, rate_in_plan}
 use Rattle.pcm_desk.specs.declared.map_book.MapBook.{MapBook}
@@ -34,6 +35,10 @@ stands-resumed kind kept mark held other new old taken device book r area = reco
   planned = λ filters served used.
       let busy = sym (ap (λ (b : MapBook). is_unheld b.state) book) ∙ used in
       planned-resumed kind kept mark held Map filters _ _ other.path old new.path (taken busy) device (ap (λ (b : MapBook). b.opening.settings) book) r (served busy);
+  far = λ filters far used.
+      let busy = sym (ap (λ (b : MapBook). is_unheld b.state) book) ∙ used in
+      subst (λ (b : MapBook). ChainIsSoFar kept filters new.path.chain b.eaten 0 b.given) (sym book)
+      ((r.goes (taken busy)).far filters other.book.eaten 0 other.book.given (far busy));
   stands = λ filters bytes s. subst (λ (b : MapBook). MapStands kept filters new b bytes) (sym book) (record {
     book_is = book;
     count = s.count;

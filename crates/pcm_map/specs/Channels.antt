@@ -8,6 +8,7 @@ use Rattle.pcm_feeder.specs.declared.stage.Gain.{Gain}
 use Rattle.pcm_feeder.specs.Filters.{Filters}
 use Rattle.pcm_feeder.specs.Kept.{Kept}
 use Rattle.pcm_chain.specs.Chains.{ChainStands}
+use Rattle.pcm_chain.specs.Far.{ChainIsSoFar}
 use Rattle.pcm_oss.specs.declared.event.Way.TheVariants.{Map}
 use Rattle.pcm_oss.specs.declared.reply.Answer.{Answer}
 use Rattle.pcm_oss.specs.declared.reply.Errno.{Errno}
@@ -45,16 +46,17 @@ pub record MapStands {B : Type 0} (kept : B → Kept) (filters : Filters) (chann
   pub count : length bytes ≡ taken_of book
   pub chain_is : is_unheld book.state ≡ false → ChainStands kept filters channel.path.chain (frames book.opening.settings bytes) 0 book.given
 
--- a channel stands for its book and some bytes
-pub record MapStandsForSome {B : Type 0} (kept : B → Kept) (filters : Filters) (channel : MapChannelOf B) : Type 0 where
-  pub bytes : List ℕ
-  pub stands : MapStands kept filters channel channel.book bytes
+-- How far a channel is, by its book's counts, whatever bytes were taken: its chain has eaten and given as many frames as the book says,
+-- and no silence. Of a free one's chain nothing is said.
+abbrev pub MapIsSoFar : {B : Type 0} → (B → Kept) → Filters → MapChannelOf B → Type 0
+MapIsSoFar kept filters channel =
+    is_unheld channel.book.state ≡ false → ChainIsSoFar kept filters channel.path.chain channel.book.eaten 0 channel.book.given
 
--- each box of a channel is of its place's kind, its chain goes by its plan unless it is free, and the channel stands for some bytes
+-- each box of a channel is of its place's kind, and unless it is free its chain goes by its plan, as far as its book counts
 pub record IsMapReady {B : Type 0} (kind : B → Kind) (kept : B → Kept) (filters : Filters) (channel : MapChannelOf B) : Type 0 where
   pub kinds : HasBoxes kind channel.path
   pub planned : IsMapServed filters channel
-  pub stands : MapStandsForSome kept filters channel
+  pub far : MapIsSoFar kept filters channel
 
 -- a channel that gives `frames` frames by an interrupt has room for them in its counts, and for the bytes that it takes for them
 pub record CountsFit {B : Type 0} (filters : Filters) (frames : ℕ) (channel : MapChannelOf B) : Type 0 where
@@ -85,11 +87,12 @@ pub record IsMapUnopened {B : Type 0} (kind : B → Kind) (kept : B → Kept) (f
   pub stands : MapStands kept filters channel channel.book []
   pub area : area_of channel ≡ silent_area channel.book.opening
 
--- What an event leaves of a channel, which may take these bytes of the area and give `frames` frames: whatever bytes it stood for, it
--- stands for these and what it took, or for none where its run is over.
+-- What an event leaves of a channel, which may take these bytes of the area and give `frames` frames: where it was as far as its book
+-- counts, it still is, and whatever bytes it stood for, it stands for these and what it took, or for none where its run is over.
 pub record MapMoves {B : Type 0} (kind : B → Kind) (kept : B → Kept) (filters : Filters) (more : List ℕ) (frames : ℕ) (old new : MapChannelOf B) : Type 0 where
   pub kinds : HasBoxes kind old.path → HasBoxes kind new.path
   pub planned : IsMapServed filters old → IsMapServed filters new
+  pub far : MapIsSoFar kept filters old → MapIsSoFar kept filters new
   pub stands : (bytes : List ℕ) → MapStands kept filters old old.book bytes → MapStands kept filters new new.book (take (taken_of new.book) (bytes ++ more))
   pub given : new.book.given ≤ old.book.given + frames
 
@@ -110,11 +113,12 @@ pub record MapBegins {B : Type 0} (kind : B → Kind) (kept : B → Kept) (filte
   pub area : area_of new ≡ silent_area new.book.opening
 
 -- a channel stands for whatever another one stands for, by the same book and with the same area, and its chain goes by the plan that the
--- other's goes by
+-- other's goes by, and is as far where the other's is
 pub record MapStandsAs {B : Type 0} (kept : B → Kept) (other channel : MapChannelOf B) : Type 0 where
   pub book : channel.book ≡ other.book
   pub area : area_of channel ≡ area_of other
   pub planned : (filters : Filters) → IsMapServed filters other → IsMapServed filters channel
+  pub far : (filters : Filters) → MapIsSoFar kept filters other → MapIsSoFar kept filters channel
   pub stands : (filters : Filters) (bytes : List ℕ) → MapStands kept filters other other.book bytes
       → MapStands kept filters channel channel.book bytes
 

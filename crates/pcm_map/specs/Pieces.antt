@@ -16,7 +16,7 @@ use Rattle.pcm_sound.specs.Gains.{map_gain}
 use Rattle.pcm_sound.specs.Given.{given_samples}
 use Rattle.pcm_path.specs.Paths.{HasBoxes}
 use Rattle.pcm_map.specs.declared.channel.MapChannelOf.{MapChannelOf}
-use Rattle.pcm_map.specs.Channels.{area_of, MapStands}
+use Rattle.pcm_map.specs.Channels.{area_of, MapIsSoFar, MapStands}
 
 -- a started channel's book once it gave n frames more
 abbrev pub book_giving : {B : Type 0} → Filters → ℕ → MapChannelOf B → MapBook
@@ -31,14 +31,15 @@ abbrev pub samples_for : {B : Type 0} → Filters → ℕ → MapChannelOf B →
 samples_for filters n channel bytes =
     given_samples (seen filters channel.path.device) (map_gain channel.book) channel.book.opening.settings (bytes ++ taken_for filters n channel) channel.book.given n
 
--- A channel gave its next n frames, which stand at the front of samples, with the bits of the mix: whatever bytes it had taken, it has
--- taken these too.
+-- A channel gave its next n frames, which stand at the front of samples, with the bits of the mix: where it was as far as its book
+-- counts, it still is, and whatever bytes it had taken, it has taken these too.
 pub record MapGives {B : Type 0} (kind : B → Kind) (kept : B → Kept) (filters : Filters) (n : ℕ) (old new : MapChannelOf B) (samples : List ℤ) : Type 0 where
   pub book : new.book ≡ book_giving filters n old
   pub device : new.path.device ≡ old.path.device
   pub area : new.area ≡ old.area
   pub plan : plan_in new.path.chain ≡ plan_in old.path.chain
   pub kinds : HasBoxes kind old.path → HasBoxes kind new.path
+  pub far : MapIsSoFar kept filters old → MapIsSoFar kept filters new
   pub stands : (bytes : List ℕ) → MapStands kept filters old old.book bytes → MapStands kept filters new new.book (bytes ++ taken_for filters n old)
   pub fits : All (FitsBits (bits_of old.path.device.mix.format)) (take (n * channels_of old.path.device.mix.layout) samples)
   pub samples_are : (bytes : List ℕ) → MapStands kept filters old old.book bytes

@@ -5,7 +5,7 @@ use Rattle.pcm_feeder.specs.Limits.{IsRate}
 use Rattle.pcm_rate.specs.Rates.{IsRatio}
 use Rattle.pcm_plan.specs.Fits.{HaveTables}
 use Rattle.pcm_plan.specs.Plans.{PlanSeen, rate_in_plan}
-use Rattle.pcm_chain.proofs.Standing.{stands-fitted}
+use Rattle.pcm_chain.proofs.Far.{far-fitted}
 use Rattle.pcm_desk.specs.declared.map_book.MapBook.{MapBook}
 use Rattle.pcm_desk.specs.Device.{seen}
 use Rattle.pcm_desk.specs.MapSafe.{MapIsSafe}
@@ -13,8 +13,9 @@ use Rattle.pcm_desk.proofs.Ratios.{tables-between}
 use Rattle.pcm_map.proofs.Books.{book-given, eaten-few, eaten-grows, next-fits, planned-device, planned-rate, safe-given, taken-fits}
 use Rattle.pcm_ring.specs.Ring.{Ring}
 use Rattle.pcm_map.specs.Pieces.{taken_for}
+use Rattle.pcm_map.proofs.Far.{pulls-far, ring-empty}
 use Rattle.pcm_map.proofs.Held.{running-held}
-use Rattle.pcm_map.proofs.Pieces.{piece-gives, pulls-piece, ring-again, ring-empty, ring-filled}
+use Rattle.pcm_map.proofs.Pieces.{piece-gives, ring-again, ring-filled}
 use Rattle.pcm_map.proofs.channel.MapChannelOf.give_piece.Goals as goal
 
 pub refilled-book-requires : goal.refilled-book-requires
@@ -69,8 +70,8 @@ pull-requires g c =
     let old = c.args.self.now in
     let planned = c.requires.ready.planned (running-held c.args.self.now.book.state c.requires.running) in
     record {
-      fitted = stands-fitted g.B.Feeder.kept c.args.tables.now old.path.chain _ 0 old.book.given
-          (c.requires.ready.stands.stands.chain_is (running-held old.book.state c.requires.running));
+      fitted = far-fitted g.B.Feeder.kept c.args.tables.now old.path.chain old.book.eaten 0 old.book.given
+          (c.requires.ready.far (running-held old.book.state c.requires.running));
       limits = search rules;
       filters = subst (λ (p : PlanSeen). HaveTables p.stages c.args.tables.now) (sym planned.plan_is)
           (tables-between (seen c.args.tables.now old.path.device) old.book.opening.settings (planned-device c.args.tables.now old planned)
@@ -88,17 +89,14 @@ invariant_of-self g c =
     let filled = ring-filled filters c.args.n old c.refilled-book.result c.deref.result.now c.size.result c.taken.result
     c.frame_bytes.result c.put_round.new.ring is c.size.ensures c.deref.ensures.value c.taken.ensures c.frame_bytes.ensures
     c.put_round.ensures in
-    let some = c.requires.ready.stands in
-    let p = pulls-piece g.B.Feeder.kept filters c.gain_of-gain.result c.args.n old c.put_round.new.ring c.pull.new.self c.pull.result
-    c.args.frames.now c.pull.new.out planned c.requires.running (ap (λ (ring : Ring). ring.bytes) filled) c.pull.ensures.pulls
-    some.bytes some.stands in
+    let far = pulls-far g.B.Feeder.kept filters c.args.n old c.put_round.new.ring c.pull.new.self c.pull.result c.pull.new.out planned
+    c.requires.running (ap (λ (ring : Ring). ring.bytes) filled) c.pull.ensures.far c.requires.ready.far in
     record {
       rates = old.rates;
       rate = subst (λ (b : MapBook). IsRate b.opening.settings.rate) (sym is) old.rate;
       ratio = subst (λ (q : PlanSeen). IsRatio (rate_in_plan q)) (sym c.pull.ensures.leaves.stays.plan) old.ratio;
       ring = ring-again c.put_round.new.ring c.pull.new.ring _ (taken_for filters c.args.n old) filled c.pull.ensures.leaves.ring
-          (ring-empty g.B.Feeder.kept filters c.gain_of-gain.result c.args.n old some.bytes c.pull.new.self c.pull.result c.args.frames.now
-          c.pull.new.out planned p);
+          (ring-empty g.B.Feeder.kept filters c.args.n old c.put_round.new.ring c.pull.new.self c.pull.result c.pull.new.out planned far);
       safe = subst (λ (q : PlanSeen). MapIsSafe (rate_in_plan q) c.refilled-book.result) (sym c.pull.ensures.leaves.stays.plan)
           (safe-given filters c.args.n old c.refilled-book.result planned c.requires.running is);
       size = old.size;
@@ -114,9 +112,11 @@ returns g c =
     let filled = ring-filled filters c.args.n old c.refilled-book.result c.deref.result.now c.size.result c.taken.result
     c.frame_bytes.result c.put_round.new.ring is c.size.ensures c.deref.ensures.value c.taken.ensures c.frame_bytes.ensures
     c.put_round.ensures in
+    let far = pulls-far g.B.Feeder.kept filters c.args.n old c.put_round.new.ring c.pull.new.self c.pull.result c.pull.new.out planned
+    c.requires.running (ap (λ (ring : Ring). ring.bytes) filled) c.pull.ensures.far c.requires.ready.far in
     record {
       gives = piece-gives g.B.Feeder.kind g.B.Feeder.kept filters c.args.n old _ c.put_round.new.ring c.pull.result c.gain_of-gain.result
           c.args.frames.now c.pull.new.out planned c.requires.running refl refl c.pull.ensures.leaves.stays.plan
           c.pull.ensures.leaves.stays.kinds is
-          (ap (λ (ring : Ring). ring.bytes) filled) c.gain_of-gain.ensures.value c.pull.ensures.pulls c.requires.ready.stands;
+          (ap (λ (ring : Ring). ring.bytes) filled) c.gain_of-gain.ensures.value c.pull.ensures.pulls far;
     }
