@@ -25,7 +25,7 @@ use Rattle.std.proofs.lemmas.List.{append-nil, get_or-map, map-set, length-map, 
 use Rattle.std.proofs.lemmas.Bool.{cases_eq, eq-eqb}
 use Rattle.pcm_desk.specs.Device.{DeviceSeen, HasRates, mixed_for, mixed_slots, passed_for, seen, unfiltered}
 use Rattle.pcm_desk.specs.RunStates.{is_unheld}
-use Rattle.pcm_desk.specs.MapBooks.{map_begun, taken_of}
+use Rattle.pcm_desk.specs.MapBooks.{map_begun}
 use Rattle.pcm_desk.specs.Channels.{capturing, map_passing, mixed_by, play_passing}
 use Rattle.pcm_play.specs.declared.channel.PlayChannelOf.{PlayChannelOf}
 use Rattle.pcm_bus.proofs.Channels.{some_channel}
@@ -74,7 +74,7 @@ ready-moved : {B : Type 0} (kind : B → Kind) (kept : B → Kept) (filters : Fi
 ready-moved kind kept filters more frames old new m r = record {
   kinds = m.kinds r.kinds;
   planned = m.planned r.planned;
-  stands = record { bytes = take new.book.written (r.stands.bytes ++ more); stands = m.stands r.stands.bytes r.stands.stands };
+  far = m.far r.far;
 }
 
 pub ready-after : {B : Type 0} (kind : B → Kind) (kept : B → Kept) (filters : Filters) (more : List ℕ) (frames : ℕ) (old new : List (PlayChannelOf B)) → length new ≡ length old → Each (PlayMoves kind kept filters more frames) old new
@@ -116,7 +116,7 @@ pub record-ready-moved : {B : Type 0} (kind : B → Kind) (kept : B → Kept) (f
 record-ready-moved kind kept filters input keeps old new m r = record {
   kinds = m.kinds r.kinds;
   planned = m.planned r.planned;
-  stands = record { bytes = _; frames = _; stands = m.stands r.stands.bytes r.stands.frames r.stands.stands };
+  far = m.far r.far;
 }
 
 -- their books after an interrupt
@@ -136,7 +136,7 @@ pub map-ready-moved : {B : Type 0} (kind : B → Kind) (kept : B → Kept) (filt
 map-ready-moved kind kept filters more frames old new m r = record {
   kinds = m.kinds r.kinds;
   planned = m.planned r.planned;
-  stands = record { bytes = take (taken_of new.book) (r.stands.bytes ++ more); stands = m.stands r.stands.bytes r.stands.stands };
+  far = m.far r.far;
 }
 
 recut-none : (opening : Opening) → is_recut opening opening ≡ false
@@ -223,6 +223,7 @@ moves-settled {B = B} kind kept filters frames old between new first last =
     record {
       kinds = λ h. last.kinds (first.kinds h);
       planned = λ p. last.planned (first.planned p);
+      far = λ f. last.far (first.far f);
       stands = λ bytes s. subst (PlayStands kept filters new new.book)
           (ap (take new.book.written) (append-nil (take between.book.written (bytes ++ []))) ∙ take-take new.book.written between.book.written (bytes ++ []) (omega arith))
           (last.stands (take between.book.written (bytes ++ [])) (first.stands bytes s));

@@ -6,7 +6,7 @@ use Rattle.pcm_feeder.specs.Filters.{Filters}
 use Rattle.pcm_feeder.specs.Kept.{Kept}
 use Rattle.pcm_feeder.specs.declared.rack.SevenOf.{SevenOf}
 use Rattle.pcm_chain.specs.Chains.{marks_in, AreFitted}
-use Rattle.pcm_chain.proofs.Standing.{stands-fitted}
+use Rattle.pcm_chain.proofs.Far.{far-fitted}
 use Rattle.pcm_desk.specs.PlayBooks.{is_play_free}
 use Rattle.pcm_desk.specs.RunStates.{is_unheld}
 use Rattle.pcm_desk.specs.declared.device.Device.{Device}
@@ -24,15 +24,15 @@ use Rattle.pcm_vchan.specs.Racks.{channel_marks}
 -- the chain of a channel that is ready is fitted, unless the channel is free
 pub play-fitted : {B : Type 0} (kind : B → Kind) (kept : B → Kept) (filters : Filters) (channel : PlayChannelOf B) → IsPlayReady kind kept filters channel → is_play_free channel.book.state ≡ false
     → AreFitted kept channel.path.chain
-play-fitted kind kept filters channel ready held = stands-fitted kept filters channel.path.chain _ _ _ (ready.stands.stands.chain_is held)
+play-fitted kind kept filters channel ready held = far-fitted kept filters channel.path.chain _ _ _ (ready.far.chain_is held)
 
 pub record-fitted : {B : Type 0} (kind : B → Kind) (kept : B → Kept) (filters : Filters) (channel : RecordChannelOf B) → IsRecordReady kind kept filters channel → is_unheld channel.book.state ≡ false
     → AreFitted kept channel.path.chain
-record-fitted kind kept filters channel ready held = stands-fitted kept filters channel.path.chain _ _ _ (ready.stands.stands.records held)
+record-fitted kind kept filters channel ready held = far-fitted kept filters channel.path.chain _ _ _ (ready.far held)
 
 pub map-fitted : {B : Type 0} (kind : B → Kind) (kept : B → Kept) (filters : Filters) (channel : MapChannelOf B) → IsMapReady kind kept filters channel → is_unheld channel.book.state ≡ false
     → AreFitted kept channel.path.chain
-map-fitted kind kept filters channel ready held = stands-fitted kept filters channel.path.chain _ _ _ (ready.stands.stands.chain_is held)
+map-fitted kind kept filters channel ready held = far-fitted kept filters channel.path.chain _ _ _ (ready.far held)
 
 -- channels that went on where others are stand for whatever these do
 pub slots-stand : {B C : Type 0} (path : C → PathOf B) (stands_as : C → C → Type 0) (kind : B → Kind) (mark : B → ℕ) (device : Device) (others old new : List C)

@@ -31,8 +31,8 @@ use Rattle.pcm_record.specs.Channels.{IsRecordReady, IsRecordUnopened, RecordMov
 use Rattle.pcm_map.specs.declared.channel.MapChannelOf.{MapChannelOf}
 use Rattle.pcm_map.specs.Channels.{IsMapReady, IsMapUnopened}
 use Rattle.pcm_vchan.specs.declared.parent.ParentOf.{ParentOf}
-use Rattle.pcm_bus.specs.Buses.{HasMadeSome, TurnsBus}
-use Rattle.pcm_bus.specs.Handovers.{IsPlannedBy}
+use Rattle.pcm_bus.specs.Buses.{TurnsBus}
+use Rattle.pcm_bus.specs.Handovers.{HasMadeFar, IsPlannedBy}
 use Rattle.pcm_vchan.specs.Captures.{Captures}
 use Rattle.pcm_bus.specs.Slots.{Each, IsMapDue, IsPlayDue, MapAreOf, MapPlays, PlayAreOf, map_books_of, play_books_of}
 use Rattle.pcm_vchan.specs.Slots.{IsRecordDue, MapKeeps, Passes, RecordAreOf, record_books_of}
@@ -117,7 +117,7 @@ mixed_in filters n parent = mixed_by (seen filters parent.device) parent.handed 
 -- its bus goes by its plan, and has made as many frames as the device has been given; just what these need was mixed
 pub record HasBus {B : Type 0} (kept : B → Kept) (device : DeviceSeen) (parent : ParentOf B) : Type 0 where
   pub planned : IsPlannedBy device parent.bus.chain
-  pub made : HasMadeSome kept device parent.bus.chain parent.handed
+  pub made : HasMadeFar kept device parent.bus.chain parent.handed
   pub level : parent.mixed ≡ mixed_for device parent.handed
 
 -- where its mix and its device are

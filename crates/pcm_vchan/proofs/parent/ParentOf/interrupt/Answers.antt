@@ -1,5 +1,7 @@
-use Rattle.std.proofs.Common.{◌≡◌, ◌<◌, ◌≤◌, ◌+◌, ℕ, All, refl, sym, ap, ◌∙◌, subst, arith}
+use Rattle.std.proofs.Common.{◌≡◌, ◌<◌, ◌≤◌, ◌+◌, ℕ, length, All, refl, sym, ap, ◌∙◌, subst, arith}
 use Rattle.pcm_sequence.specs.declared.fixed.Fixed.{Fixed}
+use Rattle.pcm_sequence.specs.Fixed.{fixed_items}
+use Rattle.pcm_sequence.proofs.Items.{items-count}
 use Rattle.pcm_feeder.specs.declared.kind.Kind.{Kind}
 use Rattle.pcm_desk.specs.declared.device.Device.{Device}
 use Rattle.pcm_desk.specs.declared.here.Here.{Here}
@@ -60,6 +62,13 @@ turn-mixed-requires-clause-due g c =
           (map_channels old)) (sym old.bus_of) c.requires.due.mapped;
     }
 
+pub turn-mixed-requires-clause-stands : goal.turn-mixed-requires-clause-stands
+turn-mixed-requires-clause-stands g c =
+    let old = c.args.self.now in
+    let bus = c.requires.due.bus in
+    subst (λ (device : Device). BusStands g.B.Feeder.kept (seen c.args.tables.now device) old.bus.chain old.handed) (sym old.bus_of)
+    (record { planned = bus.planned; made = bus.made })
+
 pub turn-mixed-requires-clause-handed : goal.turn-mixed-requires-clause-handed
 turn-mixed-requires-clause-handed g c = (roomy c.requires.some c.requires.within c.requires.due c.requires.counts).handed_fit
 
@@ -104,6 +113,17 @@ returns-clause-channels g c = λ slot other there. (passed g c slot other there)
 
 pub returns-clause-books : goal.returns-clause-books
 returns-clause-books g c = λ slot other there. (passed g c slot other there).book
+
+pub returns-clause-recorders : goal.returns-clause-recorders
+returns-clause-recorders g c = rw c.pass.ensures.others.recorders c.walk.ensures.each
+
+pub returns-clause-recorders_own : goal.returns-clause-recorders_own
+returns-clause-recorders_own g c =
+    let old = c.args.self.now in
+    let now = c.walk.new.channels in
+    rw (c.pass.ensures.others.recorders, c.pass.ensures.others.device) (λ slot other within.
+    let there : slot < length (fixed_items old.recorders) = omega (arith, items-count old.recorders, items-count now, c.walk.ensures.len) in
+    (c.walk.ensures.each slot other there).device_same ∙ (c.requires.due.recording slot other there).own)
 
 pub returns-clause-maps : goal.returns-clause-maps
 returns-clause-maps g c =

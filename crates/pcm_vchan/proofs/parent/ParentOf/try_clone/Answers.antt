@@ -53,7 +53,7 @@ resume_all-requires-3-clause-can g c = λ slot other there.
 pub resume_from-requires-clause-fitted : goal.resume_from-requires-clause-fitted
 resume_from-requires-clause-fitted g c =
     let parent = c.args.self.now in
-    made-fitted g.B.Feeder.kept (seen c.args.tables.now parent.device) parent.bus.chain c.requires.bus.made.frames parent.handed c.requires.bus.made.made
+    made-fitted g.B.Feeder.kept (seen c.args.tables.now parent.device) parent.bus.chain parent.handed c.requires.bus.made
 
 pub invariant_of-clone-clause-bus_of : goal.invariant_of-clone-clause-bus_of
 invariant_of-clone-clause-bus_of g c = c.resume_from.ensures.device ∙ c.in_ok-clone.clone.bus_of
