@@ -4,7 +4,6 @@ use Rattle.std.specs.Prelude.{IsErr, OnErr}
 use Rattle.pcm_engine.specs.Types.{Answer, Device, Errno, Event, Filters, Kept, Kind}
 use Rattle.pcm_oss.specs.declared.event.Event.TheVariants.{Read, Mixer, Intr}
 use Rattle.pcm_sequence.specs.Fixed.{fixed_len}
-use Rattle.pcm_format.specs.Frames.{Frame}
 use Rattle.pcm_format.specs.Layouts.{channels_of}
 use Rattle.pcm_oss.specs.declared.mix_request.MixRequest.{MixRequest}
 use Rattle.pcm_oss.specs.Replies.{Reply}
@@ -16,12 +15,11 @@ use Rattle.pcm_desk.specs.Events.{frames_taken}
 use Rattle.pcm_desk.proofs.Apart.{apart-after}
 use Rattle.pcm_desk.proofs.Turning.{handed-taken}
 use Rattle.pcm_bus.specs.declared.bus.BusOf.{BusOf}
-use Rattle.pcm_bus.specs.Buses.{HasMadeSome}
-use Rattle.pcm_bus.specs.Handovers.{IsPlannedBy}
+use Rattle.pcm_bus.specs.Handovers.{HasMadeFar, IsPlannedBy}
 use Rattle.pcm_vchan.specs.declared.parent.ParentOf.{ParentOf}
 use Rattle.pcm_vchan.specs.Lending.{with_mixer}
 use Rattle.pcm_vchan.specs.Parents.{HasBus, map_channels, play_channels, record_channels, untouched}
-use Rattle.pcm_vchan.specs.Slots.{AllRecordStand}
+use Rattle.pcm_vchan.specs.Slots.{AllHoldUnread}
 use Rattle.pcm_engine.specs.declared.descriptors.Descriptors.{Descriptors}
 use Rattle.pcm_engine.specs.declared.engine.EngineOf.{EngineOf}
 use Rattle.pcm_engine.specs.declared.limits.TheConstants.{LIFE}
@@ -91,8 +89,8 @@ applied-call {B} {kind} {kept} {filters} call {bytes} {samples} {old} {before} {
   maps = leaves.maps;
   bus = record {
     planned = subst (λ (bus : BusOf B). IsPlannedBy (seen filters old.device) bus.chain) (sym leaves.output.bus_same) has.planned;
-    made = subst (λ (bus : BusOf B). HasMadeSome kept (seen filters old.device) bus.chain new.handed) (sym leaves.output.bus_same)
-        (subst (HasMadeSome kept (seen filters old.device) old.bus.chain) (sym leaves.output.handed_same) has.made);
+    made = subst (λ (bus : BusOf B). HasMadeFar kept (seen filters old.device) bus.chain new.handed) (sym leaves.output.bus_same)
+        (subst (HasMadeFar kept (seen filters old.device) old.bus.chain) (sym leaves.output.handed_same) has.made);
     level = leaves.output.mixed_same ∙ has.level ∙ ap (mixed_for (seen filters old.device)) (sym leaves.output.handed_same);
   };
   turns = (ap (λ (bus : BusOf B). bus.chain) leaves.output.bus_same, leaves.output.ring_same);
@@ -111,7 +109,7 @@ applied-answer {filters = filters} call {old = old} {before = before} {result = 
       desk = takes.desk;
       result = takes.reply;
       refused = λ err. refusal result err takes.refused;
-      answered = λ bytes frames stand. no_bytes (seen filters old.device) (desk_with old before) bytes call told;
+      answered = λ bytes stand. no_bytes (seen filters old.device) (desk_with old before) bytes call told;
     })
 
 -- ---- what is asked of the mixer device
@@ -121,7 +119,7 @@ pub applied-mixer : {B : Type 0} {kind : B → Kind} {kept : B → Kept} {filter
     → new ≡ with_mixer old (mixer_after (mixed_slots (unfiltered old.device)) request old.mixer) → result ≡ mixer_reply (mixed_slots (unfiltered old.device)) request old.mixer
     → Applied kind kept filters (Mixer request) bytes samples old before new before (record { result = result; bytes = [] })
 applied-mixer {B} {kind} {kept} {filters} request {bytes} {samples} {old} {before} {new} {result} own has refused is reply = record {
-  rules = record { desk = ap (λ (p : ParentOf B). desk_with p before) is; result = reply; refused = λ err. (refused err, refl); answered = λ bytes frames stand. refl };
+  rules = record { desk = ap (λ (p : ParentOf B). desk_with p before) is; result = reply; refused = λ err. (refused err, refl); answered = λ bytes stand. refl };
   device = ap (λ (p : ParentOf B). p.device) is;
   own = subst AreOwn (sym is) (record { playing = own.playing; recording = own.recording; mapped = own.mapped });
   slots = ap (λ (p : ParentOf B). length (play_channels p)) is;
@@ -145,7 +143,7 @@ applied-at {kind = kind} {kept = kept} {filters = filters} {bytes = bytes} sampl
 -- a read is applied by the turn that it takes, and what it got
 pub applied-read : {B : Type 0} {kind : B → Kind} {kept : B → Kept} {filters : Filters} {event : Event} (fd count : ℕ) {bytes : List ℕ} (samples : Event → List ℤ) {old : ParentOf B} {before : Descriptors} {new : ParentOf B} {told : Reply} → event ≡ Read fd count
     → HasBus kept (seen filters old.device) old → TakesBy kind kept filters [] untouched (turn_on (Read fd count)) old before new before told.result
-    → ((bytes : ℕ → List ℕ) (frames : ℕ → List Frame) → AllRecordStand kept filters (record_channels old) bytes frames → told.bytes ≡ bytes_answered (seen filters old.device) (desk_with old before) bytes (Read fd count))
+    → ((bytes : ℕ → List ℕ) → AllHoldUnread (record_channels old) bytes → told.bytes ≡ bytes_answered (seen filters old.device) (desk_with old before) bytes (Read fd count))
     → Applied kind kept filters event bytes (samples event) old before new before told
 applied-read fd count samples {told = told} is has took answered =
     applied-at samples is (applied-call (Read fd count) tt has took.leaves (record { desk = took.desk; result = took.reply; refused = λ err. refusal told.result err took.refused; answered = answered }))

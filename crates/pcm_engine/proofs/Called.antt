@@ -26,10 +26,10 @@ use Rattle.pcm_engine.specs.declared.engine.EngineOf.{EngineOf}
 use Rattle.pcm_engine.specs.Applied.{Applied}
 use Rattle.pcm_engine.specs.Brought.{IsCalled, bytes_brought, padded, samples_brought}
 use Rattle.pcm_engine.specs.Engines.{AnswersKept, AreReady, HandsOver, Stands, StandsForNext, StepsAs, StepsAsCalled, device_of, desk_of, samples_most}
-use Rattle.pcm_engine.specs.Stands.{RecordersStand, bytes_kept, frames_captured}
+use Rattle.pcm_engine.specs.Stands.{RecordersStand, bytes_kept}
 use Rattle.pcm_engine.specs.Steps.{BusMoves, ChannelsMove, MapsMove, RecordersMove, bytes_answered}
 use Rattle.pcm_engine.proofs.Bringing.{descriptor-fits, wherever}
-use Rattle.pcm_engine.proofs.Recording.{all-record, answered-told, recorders-told, reply-made}
+use Rattle.pcm_engine.proofs.Recording.{all-unread, answered-told, recorders-told, reply-made}
 use Rattle.pcm_engine.proofs.Standing.{ParentStands, body-told, stands-told}
 
 -- an event that brings these bytes and samples is applied to an engine
@@ -60,7 +60,7 @@ as_named kind kept event bytes samples old new reply pool named a called =
         desk = wherever (λ e. desk_of new ≡ (after device desk e).desk) (λ fd one other at place count is. is) (λ fd offset at place count is. is) event named called.same a.rules.desk;
         result = wherever (λ e. reply.result ≡ (after device desk e).reply) (λ fd one other at place count is. is) (λ fd offset at place count is. is) event named called.same a.rules.result;
         refused = a.rules.refused;
-        answered = wherever (λ e. AnswersKept kept e old reply.bytes) (λ fd one other at place count is. is) (λ fd offset at place count is. is) event named called.same a.rules.answered;
+        answered = wherever (λ e. AnswersKept e old reply.bytes) (λ fd one other at place count is. is) (λ fd offset at place count is. is) event named called.same a.rules.answered;
       };
       device = a.device;
       own = a.own;
@@ -127,10 +127,10 @@ module _ {B : Type 0} (kind : B → Kind) (kept : B → Kept) (pool : Pool) (eve
     stands = stands_next;
     reply = λ events s.
         let is = s.playing.desk_is in
-        let all = all-record kept device pool (story events) (record_channels old.parent) (ap (λ (d : Desk). d.recording) (sym is)) s.recording in
+        let all = all-unread kept device pool (story events) (record_channels old.parent) (ap (λ (d : Desk). d.recording) (sym is)) s.recording in
         reply-made reply (after device (story events).desk event).reply (bytes_to device (story events) event)
         (t.applied.rules.result ∙ ap (λ (d : Desk). (after device d event).reply) is)
-        (t.applied.rules.answered (bytes_kept device (story events)) (frames_captured device pool (story events)) all
+        (t.applied.rules.answered (bytes_kept device (story events)) all
         ∙ ap (λ (d : Desk). bytes_answered device d (bytes_kept device (story events)) event) is
         ∙ answered-told device pool (story events) event s.recording.valid);
     bytes = hands_over;

@@ -11,7 +11,7 @@ use Rattle.pcm_record.specs.declared.channel.RecordChannelOf.{RecordChannelOf}
 use Rattle.pcm_record.specs.Channels.{RecordStands, RecordStandsAs}
 use Rattle.pcm_map.specs.declared.channel.MapChannelOf.{MapChannelOf}
 use Rattle.pcm_map.specs.Channels.{MapStands, MapStandsAs}
-use Rattle.pcm_bus.specs.Buses.{HasMadeSome}
+use Rattle.pcm_bus.specs.Handovers.{HasMadeFar}
 use Rattle.pcm_vchan.specs.declared.parent.ParentOf.{ParentOf}
 use Rattle.pcm_vchan.specs.Clones.{IsParentClone}
 use Rattle.pcm_vchan.specs.Parents.{HasBus, map_channels, play_channels, record_channels}
@@ -122,7 +122,7 @@ clone-in-order kind kept parent clone descriptors copied is held groups order =
 bus-alike : {B : Type 0} (kind : B → Kind) (kept : B → Kept) (device : DeviceSeen) (parent clone : ParentOf B) → IsParentClone kind kept parent clone → HasBus kept device parent → HasBus kept device clone
 bus-alike kind kept device parent clone is bus = record {
   planned = record { limits = bus.planned.limits; plan_is = is.plan ∙ bus.planned.plan_is };
-  made = subst (HasMadeSome kept device clone.bus.chain) (sym is.handed) (record { frames = bus.made.frames; made = is.made device bus.made.frames parent.handed bus.made.made });
+  made = subst (HasMadeFar kept device clone.bus.chain) (sym is.handed) (is.far device parent.handed bus.made);
   level = rw (is.mixed, is.handed) bus.level;
 }
 
@@ -145,13 +145,13 @@ clone-stands {B} kind kept engine clone is tables held groups ready =
       ready = ready-all kind kept clone
           (λ slot other there. let count = is.playing.count in let before : slot < length (play_channels engine.parent) = omega arith in
           let was = ready.playing slot other before in let alike = is.playing.stand slot other before in
-          rw tables (record { kinds = is.playing.kinds slot other there; planned = alike.planned engine.tables was.planned; stands = record { bytes = was.stands.bytes; stands = alike.stands engine.tables was.stands.bytes was.stands.stands } }))
+          rw tables (record { kinds = is.playing.kinds slot other there; planned = alike.planned engine.tables was.planned; far = alike.far engine.tables was.far }))
           (λ slot other there. let count = is.recording.count in let before : slot < length (record_channels engine.parent) = omega arith in
           let was = ready.recording slot other before in let alike = is.recording.stand slot other before in
-          rw tables (record { kinds = is.recording.kinds slot other there; planned = alike.planned engine.tables was.planned; stands = record { bytes = was.stands.bytes; frames = was.stands.frames; stands = alike.stands engine.tables was.stands.bytes was.stands.frames was.stands.stands } }))
+          rw tables (record { kinds = is.recording.kinds slot other there; planned = alike.planned engine.tables was.planned; far = alike.far engine.tables was.far }))
           (λ slot other there. let count = is.mapped.count in let before : slot < length (map_channels engine.parent) = omega arith in
           let was = ready.mapped slot other before in let alike = is.mapped.stand slot other before in
-          rw tables (record { kinds = is.mapped.kinds slot other there; planned = alike.planned engine.tables was.planned; stands = record { bytes = was.stands.bytes; stands = alike.stands engine.tables was.stands.bytes was.stands.stands } }))
+          rw tables (record { kinds = is.mapped.kinds slot other there; planned = alike.planned engine.tables was.planned; far = alike.far engine.tables was.far }))
           (subst (λ (d : DeviceSeen). HasBus kept d clone.parent) (sym device) (bus-alike kind kept (device_of engine) engine.parent clone.parent is ready.bus))
           (subst IsInLimits (sym device) ready.limits)
           (subst (λ (d : DeviceSeen). BooksAreHere d (desk_of clone)) (sym device) (subst (BooksAreHere (device_of engine)) (sym desk) ready.places))

@@ -33,7 +33,7 @@ use Rattle.pcm_record.specs.declared.channel.RecordChannelOf.{RecordChannelOf}
 use Rattle.pcm_record.specs.Channels.{IsRecordReady, RecordMoves, RecordStands}
 use Rattle.pcm_vchan.specs.Captures.{Captures}
 use Rattle.pcm_bus.specs.Slots.{Each}
-use Rattle.pcm_vchan.specs.Slots.{AllRecordStand, RecordAreOf, record_books_of}
+use Rattle.pcm_vchan.specs.Slots.{AllHoldUnread, RecordAreOf, record_books_of}
 use Rattle.pcm_vchan.proofs.Channels.{record-ready-moved}
 use Rattle.pcm_vchan.specs.declared.parent.ParentOf.{ParentOf}
 use Rattle.pcm_vchan.specs.Parents.{record_channels}
@@ -158,11 +158,12 @@ recorders-ready {B = B} kind kept device samples event before now same moves rea
         record-ready-moved kind kept (device_filters device) _ _ (get_or before slot other) (get_or now slot other) (each slot other (omega arith)).moves (ready slot other (omega arith))
     at event each = plain each
 
--- each channel stands for its book, its bytes and its frames
-pub all-record : {B : Type 0} (kept : B → Kept) (device : DeviceSeen) (pool : Pool) (story : Story) (recorders : List (RecordChannelOf B)) → story.desk.recording ≡ record_books_of recorders → RecordersStand kept device pool recorders story
-    → AllRecordStand kept (device_filters device) recorders (bytes_kept device story) (frames_captured device pool story)
-all-record kept device pool story recorders are s = λ slot other there.
-    subst (λ (b : RecordBook). RecordStands kept (device_filters device) (get_or recorders slot other) b (bytes_kept device story slot) (frames_captured device pool story slot)) (record_at-books device story.desk recorders slot other are there) (s.slots slot other there)
+-- of each channel those bytes wait in the ring that its book and its recording tell
+pub all-unread : {B : Type 0} (kept : B → Kept) (device : DeviceSeen) (pool : Pool) (story : Story) (recorders : List (RecordChannelOf B)) → story.desk.recording ≡ record_books_of recorders → RecordersStand kept device pool recorders story
+    → AllHoldUnread recorders (bytes_kept device story)
+all-unread kept device pool story recorders are s = λ slot other there.
+    let its = subst (λ (b : RecordBook). RecordStands kept (device_filters device) (get_or recorders slot other) b (bytes_kept device story slot) (frames_captured device pool story slot)) (record_at-books device story.desk recorders slot other are there) (s.slots slot other there) in
+    record { count = its.count; ring_is = its.ring_is }
 
 -- the bytes that a book counts are all that a read may get
 read_counted : (device : DeviceSeen) (pool : Pool) (handed count : ℕ) (running : Bool) (book : RecordBook) (recording : Recording) → is_running book.state ≡ running → RecordingIsValid device pool handed book recording

@@ -1,7 +1,7 @@
 -- What a step on an event leaves of an engine that is ready.
-use Rattle.std.proofs.Common.{◌≡◌, ◌∙◌, ℕ, ℤ, List, All, Result, drop, refl, sym, ap, subst, ◌<◌, [], length, get_or, map, min, take, Option, Some, None, inl, inr, arith}
+use Rattle.std.proofs.Common.{◌≡◌, ◌∙◌, ℕ, ℤ, List, All, Result, drop, refl, sym, ap, subst, ◌<◌, [], length, get_or, map, min, replicate, take, ◌++◌, Option, Some, None, inl, inr, arith}
 use Rattle.std.proofs.lemmas.Bool.{cases_lt}
-use Rattle.std.proofs.lemmas.List.{get_or-map, get_or_default, length-map, take_all}
+use Rattle.std.proofs.lemmas.List.{drop_at, get_or-map, get_or_default, length-append, length-map, length-replicate, take_all}
 use Rattle.pcm_engine.specs.Types.{Answer, Errno, Event, Filters, Held, Kept, Kind, RecordBook, Way}
 use Rattle.pcm_oss.specs.Replies.{Reply}
 use Rattle.pcm_desk.specs.Device.{DeviceSeen, IsInLimits}
@@ -13,7 +13,7 @@ use Rattle.pcm_desk.proofs.Members.{waits-after}
 use Rattle.pcm_desk.proofs.Turning.{handed-taken}
 use Rattle.pcm_sound.proofs.Stories.{order-after}
 use Rattle.pcm_play.specs.Channels.{IsPlayReady}
-use Rattle.pcm_record.specs.Channels.{IsRecordReady, RecordStands}
+use Rattle.pcm_record.specs.Channels.{HoldsUnread, IsRecordReady}
 use Rattle.pcm_map.specs.Channels.{IsMapReady}
 use Rattle.pcm_vchan.specs.Parents.{HasBus, map_channels, play_channels, record_channels}
 use Rattle.pcm_vchan.proofs.Channels.{ready-after}
@@ -26,33 +26,36 @@ use Rattle.pcm_engine.proofs.Called.{AppliedTo, same-device}
 use Rattle.pcm_engine.proofs.InOrder.{books-rates, ready-all}
 use Rattle.pcm_engine.proofs.Mapped.{maps-ready}
 use Rattle.pcm_engine.proofs.Recording.{recorders-ready, record_at-books}
-use Rattle.pcm_format.specs.Frames.{Frame}
 use Rattle.pcm_oss.specs.declared.event.Way.TheVariants.{Play, Record, Map}
 use Rattle.pcm_desk.specs.RecordBooks.{record_fill_of}
 use Rattle.pcm_desk.specs.Channels.{by_way}
 use Rattle.pcm_record.specs.declared.channel.RecordChannelOf.{RecordChannelOf}
-use Rattle.pcm_vchan.specs.Slots.{AllRecordStand, record_books_of}
+use Rattle.pcm_vchan.specs.Slots.{AllHoldUnread, record_books_of}
 use Rattle.pcm_bus.proofs.Channels.{some_channel}
 
 -- ---- what a read gets is the front of what waits in the ring of its own channel
 
--- the bytes and the frames of a slot: of its channel, or none where there is no such slot
-record Stood {B : Type 0} (kept : B → Kept) (filters : Filters) (recorders : List (RecordChannelOf B)) (slot : ℕ) : Type 0 where
-  bytes : List ℕ
-  frames : List Frame
-  stands : (other : RecordChannelOf B) → slot < length recorders → RecordStands kept filters (get_or recorders slot other) (get_or recorders slot other).book bytes frames
+-- what a book counts as read, and then what waits in the ring
+abbrev held_unread : {B : Type 0} → RecordChannelOf B → List ℕ
+held_unread channel = replicate channel.book.read 0 ++ channel.path.ring.bytes
 
-stood : {B : Type 0} (kind : B → Kind) (kept : B → Kept) (filters : Filters) (recorders : List (RecordChannelOf B)) → All (IsRecordReady kind kept filters) recorders → (slot : ℕ) → Stood kept filters recorders slot
-stood {B} kind kept filters recorders ready slot =
+holds : {B : Type 0} (channel : RecordChannelOf B) → HoldsUnread channel (held_unread channel)
+holds channel =
+    let long = length-replicate channel.book.read 0 in
+    record {
+      count = omega (arith, length-append (replicate channel.book.read 0) channel.path.ring.bytes, long, channel.fill, channel.within);
+      ring_is = sym (drop_at (replicate channel.book.read 0) channel.path.ring.bytes channel.book.read long);
+    }
+
+-- the bytes of a slot, or none where there is no such slot
+unread-at : {B : Type 0} (recorders : List (RecordChannelOf B)) (slot : ℕ)
+    → (bytes : List ℕ) × ((other : RecordChannelOf B) → slot < length recorders → HoldsUnread (get_or recorders slot other) bytes)
+unread-at {B} recorders slot =
     elim (cases_lt slot (length recorders)) [
       | inl there ↦ (let some : RecordChannelOf B = some_channel recorders slot there in
-          let its = (ready slot some there).stands in
-          record {
-            bytes = its.bytes;
-            frames = its.frames;
-            stands = λ other within. subst (λ (c : RecordChannelOf B). RecordStands kept filters c c.book its.bytes its.frames) (get_or_default recorders slot some other there) its.stands;
-          })
-      | inr past ↦ record { bytes = []; frames = []; stands = λ other within. absurd (omega arith) }
+          let its : RecordChannelOf B = get_or recorders slot some in
+          (held_unread its, λ other within. subst (λ (c : RecordChannelOf B). HoldsUnread c (held_unread its)) (get_or_default recorders slot some other there) (holds its)))
+      | inr past ↦ ([], λ other within. absurd (omega arith))
     ]
 
 -- a read of a channel that stands for its bytes takes them out of its ring
@@ -63,45 +66,43 @@ take_fill count bytes =
       | inr more ↦ (let is : min count (length bytes) ≡ length bytes = omega arith in ap (λ n. take n bytes) is ∙ take_all (length bytes) bytes (omega arith) ∙ sym (take_all count bytes more))
     ]
 
-front : {B : Type 0} (kept : B → Kept) (filters : Filters) (count : ℕ) (channel : RecordChannelOf B) (bytes : List ℕ) (frames : List Frame) → RecordStands kept filters channel channel.book bytes frames
+front : {B : Type 0} (count : ℕ) (channel : RecordChannelOf B) (bytes : List ℕ) → HoldsUnread channel bytes
     → take (min count (record_fill_of channel.book)) (drop channel.book.read bytes) ≡ take count channel.path.ring.bytes
-front kept filters count channel bytes frames s =
+front count channel bytes s =
     ap (λ n. take (min count n) (drop channel.book.read bytes)) (sym channel.fill) ∙ ap (take (min count (length channel.path.ring.bytes))) (sym s.ring_is) ∙ take_fill count channel.path.ring.bytes
 
 -- the bytes of each ring, by slot
 abbrev rings : {B : Type 0} → List (RecordChannelOf B) → List (List ℕ)
 rings recorders = map (λ channel. channel.path.ring.bytes) recorders
 
-read_held : {B : Type 0} (kept : B → Kept) (filters : Filters) (device : DeviceSeen) (desk : Desk) (recorders : List (RecordChannelOf B)) (bytes : ℕ → List ℕ) (frames : ℕ → List Frame) (count : ℕ) (way : Way) (slot : ℕ)
-    → desk.recording ≡ record_books_of recorders → AllRecordStand kept filters recorders bytes frames → slot < slots_of desk way
+read_held : {B : Type 0} (device : DeviceSeen) (desk : Desk) (recorders : List (RecordChannelOf B)) (bytes : ℕ → List ℕ) (count : ℕ) (way : Way) (slot : ℕ)
+    → desk.recording ≡ record_books_of recorders → AllHoldUnread recorders bytes → slot < slots_of desk way
     → let held : Held = record { way = way; slot = slot } in
     channel_read count (channel_at device desk held) (bytes slot) ≡ by_way way [] (take count (get_or (rings recorders) slot [])) []
-read_held kept filters device desk recorders bytes frames count Play slot are stand there = refl
-read_held kept filters device desk recorders bytes frames count Map slot are stand there = refl
-read_held {B} kept filters device desk recorders bytes frames count Record slot are stand there =
+read_held device desk recorders bytes count Play slot are stand there = refl
+read_held device desk recorders bytes count Map slot are stand there = refl
+read_held {B} device desk recorders bytes count Record slot are stand there =
     let here : slot < length recorders = omega (arith, there, ap (λ (l : List RecordBook). length l) are, length-map recorders (λ (c : RecordChannelOf B). c.book)) in
     let channel : RecordChannelOf B = get_or recorders slot (some_channel recorders slot here) in
     ap (λ (b : RecordBook). take (min count (record_fill_of b)) (drop b.read (bytes slot))) (record_at-books device desk recorders slot (some_channel recorders slot here) are here)
-    ∙ front kept filters count channel (bytes slot) (frames slot) (stand slot (some_channel recorders slot here) here)
+    ∙ front count channel (bytes slot) (stand slot (some_channel recorders slot here) here)
     ∙ ap (take count) (sym (get_or-map (λ (c : RecordChannelOf B). c.path.ring.bytes) recorders slot (some_channel recorders slot here) [] here))
 
-read_found : {B : Type 0} (kept : B → Kept) (filters : Filters) (device : DeviceSeen) (desk : Desk) (recorders : List (RecordChannelOf B)) (bytes : ℕ → List ℕ) (frames : ℕ → List Frame) (count : ℕ) (found : Option Held)
-    → desk.recording ≡ record_books_of recorders → AllRecordStand kept filters recorders bytes frames → ((held : Held) → found ≡ Some held → held.slot < slots_of desk held.way)
+read_found : {B : Type 0} (device : DeviceSeen) (desk : Desk) (recorders : List (RecordChannelOf B)) (bytes : ℕ → List ℕ) (count : ℕ) (found : Option Held)
+    → desk.recording ≡ record_books_of recorders → AllHoldUnread recorders bytes → ((held : Held) → found ≡ Some held → held.slot < slots_of desk held.way)
     → bytes_read device desk bytes count found ≡ front_taken (rings recorders) count found
-read_found kept filters device desk recorders bytes frames count None are stand there = refl
-read_found kept filters device desk recorders bytes frames count (Some held) are stand there = read_held kept filters device desk recorders bytes frames count held.way held.slot are stand (there held refl)
+read_found device desk recorders bytes count None are stand there = refl
+read_found device desk recorders bytes count (Some held) are stand there = read_held device desk recorders bytes count held.way held.slot are stand (there held refl)
 
 -- So a ready engine's reply to a read is the front of what waits in the ring of the slot that the descriptor holds.
-pub read-waiting : {B : Type 0} (kind : B → Kind) (kept : B → Kept) (filters : Filters) (device : DeviceSeen) (desk : Desk) (recorders : List (RecordChannelOf B)) (count : ℕ) (found : Option Held) (reply : List ℕ)
-    → desk.recording ≡ record_books_of recorders → All (IsRecordReady kind kept filters) recorders → ((held : Held) → found ≡ Some held → held.slot < slots_of desk held.way)
-    → ((bytes : ℕ → List ℕ) (frames : ℕ → List Frame) → AllRecordStand kept filters recorders bytes frames → reply ≡ bytes_read device desk bytes count found)
+pub read-waiting : {B : Type 0} (device : DeviceSeen) (desk : Desk) (recorders : List (RecordChannelOf B)) (count : ℕ) (found : Option Held) (reply : List ℕ)
+    → desk.recording ≡ record_books_of recorders → ((held : Held) → found ≡ Some held → held.slot < slots_of desk held.way)
+    → ((bytes : ℕ → List ℕ) → AllHoldUnread recorders bytes → reply ≡ bytes_read device desk bytes count found)
     → reply ≡ front_taken (rings recorders) count found
-read-waiting kind kept filters device desk recorders count found reply are ready there answered =
-    let its : (slot : ℕ) → Stood kept filters recorders slot = stood kind kept filters recorders ready in
-    let bytes : ℕ → List ℕ = λ slot. (its slot).bytes in
-    let frames : ℕ → List Frame = λ slot. (its slot).frames in
-    let stand : AllRecordStand kept filters recorders bytes frames = λ slot other within. (its slot).stands other within in
-    answered bytes frames stand ∙ read_found kept filters device desk recorders bytes frames count found are stand there
+read-waiting device desk recorders count found reply are there answered =
+    let bytes : ℕ → List ℕ = λ slot. (unread-at recorders slot).0 in
+    let hold : AllHoldUnread recorders bytes = λ slot other within. (unread-at recorders slot).1 other within in
+    answered bytes hold ∙ read_found device desk recorders bytes count found are hold there
 
 -- ---- a step
 
@@ -149,9 +150,9 @@ module _ {B : Type 0} (kind : B → Kind) (kept : B → Kept) (event : Event) (b
             (subst (λ (answer : Result Answer Errno). IsIsolated device event desk (after device desk event).desk answer) (sym a.rules.result) (isolated device event desk old.order.apart));
         read = a.rules.answered;
         taken = λ fd count is.
-            read-waiting kind kept old.tables device desk (record_channels old.parent) count (held_by desk fd) told.bytes refl was.recording
+            read-waiting device desk (record_channels old.parent) count (held_by desk fd) told.bytes refl
             (λ held e. old.order.apart.within fd held e)
-            (λ bytes frames stand. a.rules.answered bytes frames stand ∙ ap (λ (event : Event). bytes_answered device desk bytes event) is);
+            (λ bytes stand. a.rules.answered bytes stand ∙ ap (λ (event : Event). bytes_answered device desk bytes event) is);
       }
 
   -- and all that a step says of it holds

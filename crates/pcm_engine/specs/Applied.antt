@@ -3,12 +3,11 @@ use Rattle.std.specs.Prelude.{◌≡◌, ℕ, ℤ, List, IsErr, length}
 use Rattle.pcm_engine.specs.Types.{Event, Filters, Kept, Kind}
 use Rattle.pcm_oss.specs.declared.event.Event.TheVariants.{Read, Intr}
 use Rattle.pcm_oss.specs.Replies.{Reply}
-use Rattle.pcm_format.specs.Frames.{Frame}
 use Rattle.pcm_desk.specs.Device.{seen}
 use Rattle.pcm_desk.specs.Desk.{after}
 use Rattle.pcm_vchan.specs.declared.parent.ParentOf.{ParentOf}
 use Rattle.pcm_vchan.specs.Parents.{HasBus, map_channels, play_channels, record_channels}
-use Rattle.pcm_vchan.specs.Slots.{AllRecordStand}
+use Rattle.pcm_vchan.specs.Slots.{AllHoldUnread}
 use Rattle.pcm_engine.specs.declared.descriptors.Descriptors.{Descriptors}
 use Rattle.pcm_engine.specs.Desks.{desk_with}
 use Rattle.pcm_engine.specs.Invariants.{AreOwn}
@@ -20,13 +19,13 @@ IsAnsweredAlone (Read fd count) = ⊥
 IsAnsweredAlone (Intr n) = ⊥
 IsAnsweredAlone event = Unit {0}
 
--- By these filters the desk and the reply are those of the rules, and so are the bytes of the reply, whatever the channels stand for. A
+-- By these filters the desk and the reply are those of the rules, and so are the bytes of the reply, whatever bytes were kept. A
 -- refusal changes nothing.
 pub record FollowsRules {B : Type 0} (kept : B → Kept) (filters : Filters) (event : Event) (old : ParentOf B) (before : Descriptors) (new : ParentOf B) (left : Descriptors) (told : Reply) : Type 0 where
   pub desk : desk_with new left ≡ (after (seen filters old.device) (desk_with old before) event).desk
   pub result : told.result ≡ (after (seen filters old.device) (desk_with old before) event).reply
   pub refused : IsErr told.result → (new ≡ old) × (left ≡ before)
-  pub answered : (bytes : ℕ → List ℕ) (frames : ℕ → List Frame) → AllRecordStand kept filters (record_channels old) bytes frames
+  pub answered : (bytes : ℕ → List ℕ) → AllHoldUnread (record_channels old) bytes
       → told.bytes ≡ bytes_answered (seen filters old.device) (desk_with old before) bytes event
 
 -- An event that brings these bytes and samples is applied: it follows the rules, every channel is its device's still and moves as the event says, and so

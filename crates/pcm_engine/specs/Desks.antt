@@ -1,6 +1,5 @@
 -- What a parent and descriptors are to the rules: a desk. And what a call of a client makes of it.
 use Rattle.std.specs.Prelude.{◌≡◌, ℕ, List, All, Option, None, Some, Result, slice_set, take}
-use Rattle.pcm_format.specs.Frames.{Frame}
 use Rattle.pcm_engine.specs.Types.{Answer, Errno, Event, Filters, Held, Here, Kept, Kind, Request, Turn}
 use Rattle.pcm_oss.specs.declared.reply.Errno.TheVariants.{BadF}
 use Rattle.pcm_oss.specs.Replies.{bytes_due}
@@ -10,7 +9,7 @@ use Rattle.pcm_desk.specs.Desk.{Desk, DeskTurn, after, channel_at, desk_here, he
 use Rattle.pcm_play.specs.Channels.{IsPlayReady}
 use Rattle.pcm_vchan.specs.declared.parent.ParentOf.{ParentOf}
 use Rattle.pcm_vchan.specs.Parents.{map_books, play_books, play_channels, record_books, record_channels}
-use Rattle.pcm_vchan.specs.Slots.{AllRecordStand}
+use Rattle.pcm_vchan.specs.Slots.{AllHoldUnread}
 use Rattle.pcm_engine.specs.declared.descriptors.Descriptors.{Descriptors}
 use Rattle.pcm_engine.specs.Steps.{bytes_read}
 
@@ -74,7 +73,7 @@ ClosesHeld kind kept here held old new = (filters : Filters) (descriptors : Desc
 abbrev pub front_due : Result Answer Errno → List ℕ → List ℕ
 front_due result out = take (bytes_due result) out
 
--- whatever bytes the channels stand for, a read gets what was kept in its own slot
-abbrev pub ReadsKept : {B : Type 0} → (B → Kept) → ParentOf B → Descriptors → ℕ → ℕ → List ℕ → Type 0
-ReadsKept kept parent descriptors fd count got = (filters : Filters) (bytes : ℕ → List ℕ) (frames : ℕ → List Frame) → AllRecordStand kept filters (record_channels parent) bytes frames
+-- whatever bytes were kept, a read gets what was kept in its own slot
+abbrev pub ReadsKept : {B : Type 0} → ParentOf B → Descriptors → ℕ → ℕ → List ℕ → Type 0
+ReadsKept parent descriptors fd count got = (filters : Filters) (bytes : ℕ → List ℕ) → AllHoldUnread (record_channels parent) bytes
     → got ≡ bytes_read (seen filters parent.device) (desk_with parent descriptors) bytes count (held_by (desk_with parent descriptors) fd)

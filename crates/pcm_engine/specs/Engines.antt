@@ -3,7 +3,6 @@ use Rattle.std.specs.Prelude.{◌≡◌, ◌≤◌, ◌+◌, ◌*◌, ℕ, ℤ, 
 use Rattle.pcm_engine.specs.Types.{Answer, Device, Errno, Event, Filters, Kept, Kind, Pool}
 use Rattle.pcm_oss.specs.declared.event.Event.TheVariants.{Read, StartGroup}
 use Rattle.pcm_oss.specs.Replies.{Reply}
-use Rattle.pcm_format.specs.Frames.{Frame}
 use Rattle.pcm_sequence.specs.Fixed.{fixed_items}
 use Rattle.pcm_feeder.specs.declared.rack.RacksOf.{RacksOf}
 use Rattle.pcm_feeder.specs.Racks.{AreRacks, list_of}
@@ -33,7 +32,7 @@ use Rattle.pcm_map.specs.Channels.{IsMapReady}
 use Rattle.pcm_engine.specs.Stands.{PartsStand, RecordersStand}
 use Rattle.pcm_engine.specs.Steps.{bytes_answered, front_taken}
 use Rattle.pcm_vchan.specs.Parents.{HasBus, map_channels, play_channels, record_channels}
-use Rattle.pcm_vchan.specs.Slots.{AllRecordStand}
+use Rattle.pcm_vchan.specs.Slots.{AllHoldUnread}
 
 -- the engine's device, beside the filters of its run
 abbrev pub device_of : {B : Type 0} → EngineOf B → DeviceSeen
@@ -106,9 +105,9 @@ abbrev pub AreasGoAlone : {B : Type 0} → (B → Kept) → Pool → Event → E
 AreasGoAlone kept pool event engine = (events : List Event) → Stands kept engine pool events
     → ChangesOneArea (device_of engine) pool event (story_of (device_of engine) pool events) (story_of (device_of engine) pool (events ++ event ∷ []))
 
--- whatever bytes its channels stand for, the bytes of its reply are those that were kept in the slot of the event
-abbrev pub AnswersKept : {B : Type 0} → (B → Kept) → Event → EngineOf B → List ℕ → Type 0
-AnswersKept kept event engine got = (bytes : ℕ → List ℕ) (frames : ℕ → List Frame) → AllRecordStand kept engine.tables (record_channels engine.parent) bytes frames
+-- whatever bytes were kept, the bytes of its reply are those that were kept in the slot of the event
+abbrev pub AnswersKept : {B : Type 0} → Event → EngineOf B → List ℕ → Type 0
+AnswersKept event engine got = (bytes : ℕ → List ℕ) → AllHoldUnread (record_channels engine.parent) bytes
     → got ≡ bytes_answered (device_of engine) (desk_of engine) bytes event
 
 -- those of a read wait at the front of its own ring
@@ -163,8 +162,8 @@ pub record RingsHold {B : Type 0} (engine : EngineOf B) : Type 0 where
   pub recording : All (λ channel. length channel.path.ring.bytes ≤ ring_bytes channel.book.opening) (record_channels engine.parent)
   pub device : length engine.parent.ring.bytes ≡ ring_frames (device_of engine) * device_frame_bytes (device_of engine)
 
--- The device is within its limits, each box of the engine is of its place's kind, each channel stands for its book, the bus has made what was
--- given to the device, all books are in order, and no ring passes its size. Every engine is so, from its first moment on, with whatever pools it is stepped; no type can say it of boxes.
+-- The device is within its limits, each box of the engine is of its place's kind, each channel and the bus are as far as
+-- their counts say, all books are in order, and no ring passes its size. Every engine is so, from its first moment on, with whatever pools it is stepped; no type can say it of boxes.
 pub record AreReady {B : Type 0} (kind : B → Kind) (kept : B → Kept) (engine : EngineOf B) : Type 0 where
   pub limits : IsInLimits (device_of engine)
   pub playing : All (IsPlayReady kind kept engine.tables) (play_channels engine.parent)
@@ -206,7 +205,7 @@ pub record GoesByRules {B : Type 0} (kept : B → Kept) (event : Event) (old new
   pub result : told.result ≡ (after (device_of old) (desk_of old) event).reply
   pub refused : IsErr told.result → IsUnchanged old new
   pub isolated : IsIsolated (device_of old) event (desk_of old) (desk_of new) told.result
-  pub read : AnswersKept kept event old told.bytes
+  pub read : AnswersKept event old told.bytes
   pub taken : TakesFront event old told.bytes
 
 -- What a step on an event makes of an engine that is ready: it goes by the rules and is ready again, and its device bytes, of which there are

@@ -94,7 +94,7 @@ fn read<B: Feeder>(
         parent.old descriptors.now parent.new descriptors.now result }
     ensures within { bytes_due result ≤ length out.old }
     ensures length { length out.new ≡ length out.old }
-    ensures bytes { ReadsKept B.kept parent.old descriptors.now fd (length out.old) (front_due result out.new) }
+    ensures bytes { ReadsKept parent.old descriptors.now fd (length out.old) (front_due result out.new) }
 {
     let slot = descriptors.slot_of(fd, Way::Record)?;
     parent.recorder(slot).read(out)
@@ -114,7 +114,7 @@ pub fn answer_read<B: Feeder>(
     requires room { length bytes.old ≡ REPLY_BYTES }
     ensures takes { (filters : Filters) → TakesBy B.kind B.kept filters [] untouched (turn_on (Read fd len))
         parent.old descriptors.now parent.new descriptors.now reply.new.result }
-    ensures bytes { ReadsKept B.kept parent.old descriptors.now fd len reply.new.bytes }
+    ensures bytes { ReadsKept parent.old descriptors.now fd len reply.new.bytes }
 {
     let answer = read(parent, descriptors, fd, &mut bytes[..len as usize]);
     reply.keep(answer, bytes);

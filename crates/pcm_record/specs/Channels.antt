@@ -66,9 +66,14 @@ pub record CaptureFits {B : Type 0} (filters : Filters) (frames : ℕ) (channel 
   pub captured : channel.book.captured + frames < 2 ^ 64
   pub given : can (record_rate_at (seen filters channel.path.device) channel.book) (channel.book.captured + frames) < 2 ^ 64
 
--- whatever bytes a channel stands for, a read gives those that were kept first and not yet read, as many as its answer says
-abbrev pub GivesUnread : {B : Type 0} → (B → Kept) → RecordChannelOf B → Result Answer Errno → List ℕ → Type 0
-GivesUnread kept channel result out = (filters : Filters) (bytes : List ℕ) (frames : List Frame) → RecordStands kept filters channel channel.book bytes frames
+-- as many bytes were kept as the book counts, and those that were not read wait in the ring
+pub record HoldsUnread {B : Type 0} (channel : RecordChannelOf B) (bytes : List ℕ) : Type 0 where
+  pub count : length bytes ≡ channel.book.kept
+  pub ring_is : channel.path.ring.bytes ≡ unread_of channel.book bytes
+
+-- whatever bytes were kept, a read gives those that were kept first and not yet read, as many as its answer says
+abbrev pub GivesUnread : {B : Type 0} → RecordChannelOf B → Result Answer Errno → List ℕ → Type 0
+GivesUnread channel result out = (bytes : List ℕ) → HoldsUnread channel bytes
     → take (bytes_due result) out ≡ take (bytes_due result) (unread_of channel.book bytes)
 
 -- nobody has opened the channel yet: it stands for no bytes and no frames, its boxes are of the right kinds, and its chain goes
@@ -107,7 +112,7 @@ pub record RecordReads {B : Type 0} (kind : B → Kind) (keeps : B → Kept) (re
   pub book : new.book ≡ (read_turn (length before) old.book).book
   pub reply : result ≡ (read_turn (length before) old.book).reply
   pub within : bytes_due result ≤ length before
-  pub bytes : GivesUnread keeps old result after
+  pub bytes : GivesUnread old result after
   pub rest : drop (bytes_due result) after ≡ drop (bytes_due result) before
   pub refused : OnErr result (new ≡ old)
   pub kept : OnErr result (after ≡ before)

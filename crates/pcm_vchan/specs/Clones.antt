@@ -12,7 +12,7 @@ use Rattle.pcm_path.specs.Resumes.{ChannelResumes}
 use Rattle.pcm_play.specs.Channels.{PlayStandsAs}
 use Rattle.pcm_record.specs.Channels.{RecordStandsAs}
 use Rattle.pcm_map.specs.Channels.{MapStandsAs}
-use Rattle.pcm_bus.specs.Handovers.{HasMade}
+use Rattle.pcm_bus.specs.Handovers.{HasMade, HasMadeFar}
 use Rattle.pcm_bus.specs.Slots.{Each}
 use Rattle.pcm_vchan.specs.declared.parent.ParentOf.{ParentOf}
 use Rattle.pcm_vchan.specs.Parents.{map_channels, play_channels, record_channels}
@@ -39,6 +39,7 @@ pub record IsParentClone {B : Type 0} (kind : B → Kind) (kept : B → Kept) (p
   pub mapped : SlotsStandAs (λ channel. channel.path) (MapStandsAs kept) kind parent.device (map_channels parent) (map_channels clone)
   pub mixer : clone.mixer ≡ parent.mixer
   pub plan : plan_in clone.bus.chain ≡ plan_in parent.bus.chain
+  pub far : (device : DeviceSeen) (handed : ℕ) → HasMadeFar kept device parent.bus.chain handed → HasMadeFar kept device clone.bus.chain handed
   pub made : (device : DeviceSeen) (x : List Frame) (handed : ℕ) → HasMade kept device parent.bus.chain x handed → HasMade kept device clone.bus.chain x handed
   pub ring : clone.ring.bytes ≡ parent.ring.bytes
   pub handed : clone.handed ≡ parent.handed

@@ -6,13 +6,12 @@ use Rattle.pcm_desk.specs.declared.device.Device.{Device}
 use Rattle.pcm_desk.specs.declared.record_book.RecordBook.{RecordBook}
 use Rattle.pcm_feeder.specs.Filters.{Filters}
 use Rattle.pcm_feeder.specs.Kept.{Kept}
-use Rattle.pcm_format.specs.Frames.{Frame}
 use Rattle.pcm_desk.specs.Channels.{by_way, play_passing}
 use Rattle.pcm_desk.specs.Device.{DeviceSeen}
 use Rattle.pcm_play.specs.declared.channel.PlayChannelOf.{PlayChannelOf}
 use Rattle.pcm_oss.specs.declared.fragments.TheConstants.{RING_BYTES}
 use Rattle.pcm_record.specs.declared.channel.RecordChannelOf.{RecordChannelOf}
-use Rattle.pcm_record.specs.Channels.{CaptureFits, IsRecordReady, RecordStands}
+use Rattle.pcm_record.specs.Channels.{CaptureFits, HoldsUnread, IsRecordReady}
 pub use Rattle.pcm_path.specs.Paths.{ChannelMoves}
 pub use Rattle.pcm_map.specs.Channels.{MapKeeps}
 
@@ -34,10 +33,10 @@ record_books_of channels = map (λ channel. channel.book) channels
 abbrev pub RecordAreOf : {B : Type 0} → Device → List (RecordChannelOf B) → Type 0
 RecordAreOf device channels = All (λ channel. channel.path.device ≡ device) channels
 
--- each stands for its book, the bytes that were kept in its slot and the frames that were captured there
-abbrev pub AllRecordStand : {B : Type 0} → (B → Kept) → Filters → List (RecordChannelOf B) → (ℕ → List ℕ) → (ℕ → List Frame) → Type 0
-AllRecordStand kept filters channels bytes frames = (slot : ℕ) (other : RecordChannelOf _) → slot < length channels
-    → RecordStands kept filters (slice_index_or channels slot other) (slice_index_or channels slot other).book (bytes slot) (frames slot)
+-- as many bytes were kept in the slot of each as its book counts, and those that were not read wait in its ring
+abbrev pub AllHoldUnread : {B : Type 0} → List (RecordChannelOf B) → (ℕ → List ℕ) → Type 0
+AllHoldUnread channels bytes = (slot : ℕ) (other : RecordChannelOf _) → slot < length channels
+    → HoldsUnread (slice_index_or channels slot other) (bytes slot)
 
 -- a channel of this device is ready for an interrupt that captures `frames` frames, and its counts have room for them
 pub record IsRecordDue {B : Type 0} (kind : B → Kind) (keeps : B → Kept) (filters : Filters) (device : Device) (frames : ℕ) (channel : RecordChannelOf B) : Type 0 where

@@ -32,12 +32,12 @@ returns-clause-takes g c = λ filters.
     c.args.descriptors.now c.read-answer.new.parent c.args.descriptors.now c.read-answer.result) asked took)
 
 pub returns-clause-bytes : goal.returns-clause-bytes
-returns-clause-bytes g c = λ filters bytes frames stand.
+returns-clause-bytes g c = λ filters bytes stand.
     let desk : Desk = desk_with c.args.parent.now c.args.descriptors.now in
     let device : DeviceSeen = seen filters c.args.parent.now.device in
     let within = c.read-answer.ensures.within in
     ap (λ (r : Reply). r.bytes) c.keep.ensures
     ∙ take-append-le (bytes_due c.read-answer.result) c.read-answer.new.out _ (omega (arith, within, c.read-answer.ensures.length))
-    ∙ c.read-answer.ensures.bytes filters bytes frames stand
+    ∙ c.read-answer.ensures.bytes filters bytes stand
     ∙ ap (λ (n : ℕ). bytes_read device desk bytes n (held_by desk c.args.fd))
     (there c.args.len c.args.bytes.now c.requires.room c.requires.called.asks.within.1)

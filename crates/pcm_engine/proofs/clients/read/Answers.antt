@@ -8,7 +8,7 @@ use Rattle.pcm_desk.specs.RecordBooks.{read_turn}
 use Rattle.pcm_desk.specs.Desk.{channel_turn, held_by, record_unopened}
 use Rattle.pcm_desk.proofs.Silent.{read-due}
 use Rattle.pcm_record.specs.declared.channel.RecordChannelOf.{RecordChannelOf}
-use Rattle.pcm_record.specs.Channels.{RecordStands}
+use Rattle.pcm_record.specs.Channels.{HoldsUnread}
 use Rattle.pcm_vchan.specs.Parents.{record_channels}
 use Rattle.pcm_vchan.proofs.Channels.{record_at-channel}
 use Rattle.pcm_engine.specs.Desks.{desk_with, turn_on}
@@ -44,11 +44,10 @@ returns g c =
           (got.moves filters) got.refused;
       within = search rules;
       length = search rules;
-      bytes = λ filters bytes frames stand.
+      bytes = λ filters bytes stand.
           let book = record_at-channel (record_channels parent) slot lent (record_unopened (seen filters parent.device)) there is in
-          let stands = subst (λ (channel : RecordChannelOf _). RecordStands g.B.Feeder.kept filters channel channel.book (bytes slot)
-          (frames slot)) (sym is) (stand slot lent there) in
-          got.bytes filters (bytes slot) (frames slot) stands
+          let holds = subst (λ (channel : RecordChannelOf _). HoldsUnread channel (bytes slot)) (sym is) (stand slot lent there) in
+          got.bytes (bytes slot) holds
           ∙ ap (λ k. take k (drop lent.book.read (bytes slot))) (ap bytes_due got.reply ∙ read-due n lent.book)
           ∙ sym (bytes_read-held (seen filters parent.device) desk bytes n (held_by desk c.args.fd) (channel_of Record slot) lent.book e
           refl book);

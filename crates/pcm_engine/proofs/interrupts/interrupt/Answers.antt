@@ -29,7 +29,7 @@ returns-clause-applied g c = λ descriptors bytes.
         };
         result = refl;
         refused = λ err. cc;
-        answered = λ bytes frames stand. refl;
+        answered = λ bytes stand. refl;
       };
       device = made.device;
       own = record { playing = made.own; recording = made.recorders_own; mapped = made.maps_own };

@@ -17,7 +17,11 @@ use Rattle.pcm_engine.specs.Stands.{RecordersStand}
 use Rattle.pcm_engine.proofs.InOrder.{books-start, ready-all}
 use Rattle.pcm_engine.proofs.Starting.{books-unopened, parent-starts, recorders-start}
 use Rattle.pcm_engine.proofs.engine.EngineOf.new.Goals as goal
-use Rattle.pcm_bus.specs.Handovers.{HasMade}
+use Rattle.pcm_bus.specs.Handovers.{HasMadeFar}
+use Rattle.pcm_bus.proofs.Handovers.{made-far}
+use Rattle.pcm_play.proofs.Stands.{play-far}
+use Rattle.pcm_record.proofs.Stands.{record-far}
+use Rattle.pcm_map.proofs.Far.{map-far}
 use Rattle.pcm_vchan.specs.Parents.{HasBus, map_channels, play_channels, record_channels}
 
 pub invariant_of-result : goal.invariant_of-result
@@ -54,20 +58,17 @@ invariant_of-result g c =
 pub returns-clause-ready : goal.returns-clause-ready
 returns-clause-ready g c = ready-all g.B.Feeder.kind g.B.Feeder.kept _
     (λ slot other there. let u = c.in_ok-parent.ensures.channels slot other there in record
-    { kinds = u.kinds; planned = λ used. u.planned; stands = record { bytes = []; stands = u.stands } })
+    { kinds = u.kinds; planned = λ used. u.planned; far = play-far g.B.Feeder.kept c.args.tables _ [] u.stands })
     (λ slot other there. let u = c.in_ok-parent.ensures.recording slot other there in record
-    { kinds = u.kinds; planned = λ used. u.planned; stands = record { bytes = []; frames = []; stands = u.stands } })
+    { kinds = u.kinds; planned = λ used. u.planned; far = record-far g.B.Feeder.kept c.args.tables _ [] [] u.stands })
     (λ slot other there. let u = c.in_ok-parent.ensures.mapped slot other there in record
-    { kinds = u.kinds; planned = λ used. u.planned; stands = record { bytes = []; stands = u.stands } })
+    { kinds = u.kinds; planned = λ used. u.planned; far = map-far g.B.Feeder.kept c.args.tables _ [] u.stands })
     (let e = c.in_ok-parent.ensures in
     let parent = c.in_ok-parent.parent in
     subst (λ (d : Device). HasBus g.B.Feeder.kept (seen c.args.tables d) parent) (sym e.device) (record {
       planned = e.planned;
-      made = record {
-        frames = [];
-        made = subst (HasMade g.B.Feeder.kept (seen c.args.tables c.args.device) parent.bus.chain [])
-            (sym e.handed) e.made;
-      };
+      made = subst (HasMadeFar g.B.Feeder.kept (seen c.args.tables c.args.device) parent.bus.chain) (sym e.handed)
+          (made-far g.B.Feeder.kept (seen c.args.tables c.args.device) parent.bus.chain [] 0 e.made);
       level = e.mixed ∙ ap (mixed_for (seen c.args.tables c.args.device)) (sym e.handed);
     }))
     (subst (λ (d : Device). IsInLimits (seen c.args.tables d)) (sym c.in_ok-parent.ensures.device) c.requires.limits)

@@ -25,7 +25,7 @@ returns g c =
       book = search rules;
       reply = search rules;
       within = search rules;
-      bytes = λ filters bytes frames s.
+      bytes = λ bytes s.
           ap (λ (n : ℕ). take n c.take.new.out) taken.due
           ∙ ap (take count) c.take.ensures.moved
           ∙ take_at (take count waiting) (drop count out) count (length-take-le count waiting (omega (arith, c.take.ensures.count)))
@@ -56,7 +56,7 @@ returns-in_err-answer g c =
       book = grind (arith, common_steps);
       reply = reply;
       within = omega (arith, none);
-      bytes = λ filters bytes frames s. ap (λ n. take n out) none ∙ sym (ap (λ n. take n (unread_of old.book bytes)) none);
+      bytes = λ bytes s. ap (λ n. take n out) none ∙ sym (ap (λ n. take n (unread_of old.book bytes)) none);
       rest = refl;
       refused = search rules;
       kept = search rules;

@@ -86,6 +86,7 @@ returns-clause-clone g c =
           (λ slot other there. (made.mapped slot other there).device_is) c.resume_all-3.ensures.resumed;
       mixer = c.copy_from.ensures;
       plan = went.plan;
+      far = went.far;
       made = went.made;
       ring = ap (λ (ring : Ring). ring.bytes) c.copy_from-2.ensures;
       handed = refl;
