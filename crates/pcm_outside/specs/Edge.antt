@@ -1,6 +1,6 @@
 -- What a contract sees of the real forms, which show no contents, and of a writer.
-use Rattle.std.specs.Prelude.{ℕ, Bool, false, List, [], Option, None}
-use Rattle.std.specs.Io.KnownBytes.{Appends}
+use Rattle.std.specs.Prelude.{◌≡◌, ◌≤◌, ◌<◌, ℕ, Bool, false, List, [], ◌++◌, Option, None, length}
+use Rattle.std.specs.Io.KnownBytes.{Appends, Consumes, IsAtEnd}
 use Rattle.pcm_outside.specs.Files.{FilesSeen, IsPrefixOf}
 use Rattle.pcm_outside.specs.Sink.{SinkSeen}
 
@@ -25,3 +25,11 @@ pub record AppendsPart (old new : Option (List ℕ)) (piece : List ℕ) : Type 0
   pub part : List ℕ
   pub front : IsPrefixOf part piece
   pub grows : Appends old new part
+
+-- the bytes so far grew by what a reader shows next, to `most` bytes, or to its end
+pub record ReadsOn (old new : Option (List ℕ)) (before after : List ℕ) (most : ℕ) : Type 0 where
+  pub more : List ℕ
+  pub joined : after ≡ before ++ more
+  pub taken : Consumes old new more
+  pub within : length after ≤ most
+  pub end : length after < most → IsAtEnd new
