@@ -4,6 +4,7 @@ use Rattle.pcm_feeder.proofs.Frames.{length-frames_of}
 use Rattle.pcm_chain.specs.Chains.{plan_in}
 use Rattle.pcm_chain.specs.Gives.{filling_frames, AreJustEnough, GivesExactly}
 use Rattle.pcm_chain.specs.Pushes.{pushed_frames}
+use Rattle.pcm_chain.proofs.Far.{chain-far}
 use Rattle.feed_tests.proofs.gives.may_give.Goals as goal
 
 -- each sample of one channel is a frame
@@ -21,9 +22,12 @@ give-requires-clause-can g c =
     let before = rw c.plan.ensures at c.need-before.ensures in
     let after = rw c.plan-2.ensures at c.need-after.ensures in
     record {
-      frames = gives.0;
+      eaten = length gives.0;
       given = c.args.given;
-      gives = gives.1;
+      gives = record {
+        far = chain-far g.B.Feeder.kept c.args.tables.now c.args.chain.now gives.0 0 c.args.given gives.1.stands;
+        exact = gives.1.exact;
+      };
       enough = rw count (omega (arith, frames, c.saturating_sub.ensures, before, after, c.if-enough.true));
     }
 
