@@ -16,13 +16,11 @@ use pcm_num::{clamp_bits, floor_shift};
 /// Brings frames of one layout to another.
 pub type MatrixFeeder = MapFeeder<Matrix>;
 
-/// The weights between two layouts.
+/// Two layouts.
 #[derive(Clone, Copy)]
 pub struct Matrix {
     from: Layout,
     to: Layout,
-    weights: [[u32; 8]; 8],
-    ghost table: { AreWeights from to weights },
 }
 
 impl FrameMap for Matrix {
@@ -47,11 +45,7 @@ impl FrameMap for Matrix {
 
     fn of(spec: Spec) -> Option<Matrix> {
         match spec {
-            Spec::Matrix { from, to } => Some(Matrix {
-                from,
-                to,
-                weights: weights(from, to),
-            }),
+            Spec::Matrix { from, to } => Some(Matrix { from, to }),
             _ => None,
         }
     }
@@ -61,69 +55,69 @@ impl FrameMap for Matrix {
     }
 
     fn put_frames(&self, gain: Gain, input: &[i32], frames: usize, output: &mut [i32]) {
+        let to = self.to;
         match self.from {
-            Layout::One => self.put_from::<1>(input, frames, output),
-            Layout::Two => self.put_from::<2>(input, frames, output),
-            Layout::Four => self.put_from::<4>(input, frames, output),
-            Layout::Six => self.put_from::<6>(input, frames, output),
-            Layout::Eight => self.put_from::<8>(input, frames, output),
+            Layout::One => put_from(Layout::One, to, input, frames, output),
+            Layout::Two => put_from(Layout::Two, to, input, frames, output),
+            Layout::Four => put_from(Layout::Four, to, input, frames, output),
+            Layout::Six => put_from(Layout::Six, to, input, frames, output),
+            Layout::Eight => put_from(Layout::Eight, to, input, frames, output),
         }
     }
 }
 
-impl Matrix {
-    // Puts frames of `TAKEN` channels, by the loop of that count and the other.
-    fn put_from<const TAKEN: usize>(&self, input: &[i32], frames: usize, output: &mut [i32])
-        requires taken { TAKEN ≡ channels_of self.now.from }
-        requires input { frames * TAKEN ≤ length input.now }
-        requires output { frames * channels_of self.now.to ≤ length output.old }
-        ensures { output.new ≡ written
-            (map (in_layout self.now.from self.now.to) (take frames (frames_of TAKEN input.now)))
-            output.old }
-    {
-        match self.to {
-            Layout::One => self.put_each::<TAKEN, 1>(input, frames, output),
-            Layout::Two => self.put_each::<TAKEN, 2>(input, frames, output),
-            Layout::Four => self.put_each::<TAKEN, 4>(input, frames, output),
-            Layout::Six => self.put_each::<TAKEN, 6>(input, frames, output),
-            Layout::Eight => self.put_each::<TAKEN, 8>(input, frames, output),
-        }
+// Puts frames of one layout, by the loop of that layout and the other. Both are constants of the loop, and what it calls is
+// inlined: so what is done to one frame is straight code, in which weights are constants, and those of zero aren't there.
+#[inline(always)]
+fn put_from(from: Layout, to: Layout, input: &[i32], frames: usize, output: &mut [i32])
+    requires input { frames * channels_of from ≤ length input.now }
+    requires output { frames * channels_of to ≤ length output.old }
+    ensures { output.new ≡ written
+        (map (in_layout from to) (take frames (frames_of (channels_of from) input.now)))
+        output.old }
+{
+    match to {
+        Layout::One => put_each(from, Layout::One, input, frames, output),
+        Layout::Two => put_each(from, Layout::Two, input, frames, output),
+        Layout::Four => put_each(from, Layout::Four, input, frames, output),
+        Layout::Six => put_each(from, Layout::Six, input, frames, output),
+        Layout::Eight => put_each(from, Layout::Eight, input, frames, output),
     }
+}
 
-    // Puts frames of `TAKEN` channels as frames of `GIVEN`. Both counts are constants of the loop, and
-    // what it calls is inlined: so what is done to one frame is straight code.
-    fn put_each<const TAKEN: usize, const GIVEN: usize>(
-        &self,
-        input: &[i32],
-        frames: usize,
-        output: &mut [i32],
-    )
-        requires taken { TAKEN ≡ channels_of self.now.from }
-        requires given { GIVEN ≡ channels_of self.now.to }
-        requires input { frames * TAKEN ≤ length input.now }
-        requires output { frames * GIVEN ≤ length output.old }
-        ensures { output.new ≡ written
-            (map (in_layout self.now.from self.now.to) (take frames (frames_of TAKEN input.now)))
-            output.old }
-    {
-        // A copy: weights that aren't the loop's own would be read again for each frame.
-        let matrix = *self;
-        for k in 0..frames {
-            let frame = &input[k * TAKEN..k * TAKEN + TAKEN];
-            matrix.put_frame(frame, &mut output[k * GIVEN..k * GIVEN + GIVEN]);
-        }
+// Puts each frame.
+#[inline(always)]
+fn put_each(from: Layout, to: Layout, input: &[i32], frames: usize, output: &mut [i32])
+    requires input { frames * channels_of from ≤ length input.now }
+    requires output { frames * channels_of to ≤ length output.old }
+    ensures { output.new ≡ written
+        (map (in_layout from to) (take frames (frames_of (channels_of from) input.now)))
+        output.old }
+{
+    let rows = weights(from, to);
+    let (taken, given) = (from.channels(), to.channels());
+    for k in 0..frames {
+        let frame = &input[k * taken..k * taken + taken];
+        put_frame(
+            from,
+            to,
+            &rows,
+            frame,
+            &mut output[k * given..k * given + given],
+        );
     }
+}
 
-    // Puts one frame.
-    #[inline(always)]
-    fn put_frame(&self, frame: &[i32], output: &mut [i32])
-        requires frame { length frame.now ≡ channels_of self.now.from }
-        requires output { length output.old ≡ channels_of self.now.to }
-        ensures { output.new ≡ in_layout self.now.from self.now.to frame.now }
-    {
-        for at in 0..output.len() {
-            output[at] = gathered(&self.weights[at][..frame.len()], frame);
-        }
+// Puts one frame.
+#[inline(always)]
+fn put_frame(from: Layout, to: Layout, rows: &[[u32; 8]; 8], frame: &[i32], output: &mut [i32])
+    requires rows { AreWeights from to rows.now }
+    requires frame { length frame.now ≡ channels_of from }
+    requires output { length output.old ≡ channels_of to }
+    ensures { output.new ≡ in_layout from to frame.now }
+{
+    for at in 0..output.len() {
+        output[at] = gathered(&rows[at][..frame.len()], frame);
     }
 }
 

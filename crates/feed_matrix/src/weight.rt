@@ -8,6 +8,7 @@ ghost use Rattle.feed_matrix.specs.Weights.{row_of, AreWeights, IsWeight};
 use pcm_format::{Layout, Position};
 
 // The weights of each position of a layout, in rows: one number for each position of the source.
+#[inline(always)]
 pub(crate) fn weights(from: Layout, to: Layout) -> [[u32; 8]; 8]
     ensures { AreWeights from to result }
 {
@@ -19,6 +20,7 @@ pub(crate) fn weights(from: Layout, to: Layout) -> [[u32; 8]; 8]
 }
 
 // The weights of one position of a layout.
+#[inline(always)]
 fn row(from: Layout, to: Layout, target: Position) -> [u32; 8]
     ensures row { take (channels_of from) result ≡ row_of from to target }
     ensures limits { All (λ weight. weight ≤ 65536) result }
@@ -32,6 +34,7 @@ fn row(from: Layout, to: Layout, target: Position) -> [u32; 8]
 
 // The weight with which sound goes to a position of a layout, where 65536 is one. Sound of positions
 // that two, four or six lack goes to others or nowhere, and all else as to eight.
+#[inline(always)]
 fn weight(to: Layout, target: Position, source: Position) -> u32
     ensures { IsWeight to target source result }
 {
@@ -49,6 +52,7 @@ fn weight(to: Layout, target: Position, source: Position) -> u32
     }
 }
 
+#[inline(always)]
 fn to_one(target: Position, source: Position) -> u32
     ensures { IsWeight layouts.One target source result }
 {
@@ -62,6 +66,7 @@ fn to_one(target: Position, source: Position) -> u32
 }
 
 // Every position goes to itself, and mono to both sides of the front.
+#[inline(always)]
 fn to_eight(target: Position, source: Position) -> u32
     ensures { IsWeight layouts.Eight target source result }
 {

@@ -97,13 +97,14 @@ impl Interpolator for Polyphase {
         let filter = &tables.list()[self.table];
         let row = Row::of(filter, row_at(point, filter.phases));
         // Then the frames of the window are those around the output.
-        self.window.eat(input, self.passed, point.needed);
+        self.window.eat(channels, input, self.passed, point.needed);
         self.passed = point.needed;
         row.put_frame(channels, &self.window, output);
     }
 
     fn eat(&mut self, input: &[i32], eaten: usize) {
-        self.window.eat(input, self.passed, eaten);
+        let channels = self.window.channels();
+        self.window.eat(channels, input, self.passed, eaten);
         self.passed = 0;
     }
 }

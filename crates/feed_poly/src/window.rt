@@ -76,7 +76,7 @@ impl Window {
         ensures taps { self.new.taps ≡ taps }
     {
         self.clear(channels, taps);
-        self.eat(samples, 0, taps);
+        self.eat(channels, samples, 0, taps);
     }
 
     /// Copies the frames, interleaved.
@@ -104,14 +104,16 @@ impl Window {
     }
 
     /// Takes in the frames of the input from one place to another, in place of as many of the oldest.
-    pub fn eat(&mut self, input: &[i32], from: usize, to: usize)
+    /// Each call has the loop for itself: where it knows the channels, a frame is put without one.
+    #[inline(always)]
+    pub fn eat(&mut self, channels: usize, input: &[i32], from: usize, to: usize)
+        requires channels { channels ≡ self.old.channels }
         requires order { from ≤ to }
-        requires there { to * self.old.channels ≤ length input.now }
+        requires there { to * channels ≤ length input.now }
         ensures frames { window_frames self.new ≡ frames_after self.old input.now from to }
         ensures channels { self.new.channels ≡ self.old.channels }
         ensures taps { self.new.taps ≡ self.old.taps }
     {
-        let channels = self.channels;
         for k in from..to {
             let at = k * channels;
             self.push(&input[at..at + channels]);
@@ -119,15 +121,17 @@ impl Window {
     }
 
     // Takes in a frame, in place of the oldest.
+    #[inline(always)]
     fn push(&mut self, frame: &[i32])
         requires { length frame.now ≡ self.old.channels }
         ensures frames { window_frames self.new ≡ moved_on (window_frames self.old) (frame.now ∷ []) }
         ensures channels { self.new.channels ≡ self.old.channels }
         ensures taps { self.new.taps ≡ self.old.taps }
     {
-        put_twice(&mut self.samples, self.taps, self.at, frame);
-        let next = self.at + 1;
-        self.at = if next == self.taps { 0 } else { next };
+        let (taps, at) = (self.taps, self.at);
+        put_twice(&mut self.samples, taps, at, frame);
+        let next = at + 1;
+        self.at = if next == taps { 0 } else { next };
     }
 
     /// Lends the samples of a channel in all frames.
@@ -149,6 +153,7 @@ impl Window {
 }
 
 // Writes each sample of a frame at a place of its channel, and again `taps` places later.
+#[inline(always)]
 fn put_twice(samples: &mut [i32], taps: usize, at: usize, frame: &[i32])
     requires size { length samples.old ≡ 1024 }
     requires most { taps ≤ TAPS }

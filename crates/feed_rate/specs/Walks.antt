@@ -1,10 +1,10 @@
 -- A walk from output to output in one feed: what it needs, and what it has done.
-use Rattle.std.specs.Prelude.{◌≡◌, ◌<◌, ◌≤◌, ◌*◌, ◌^◌, ℤ, List, length}
+use Rattle.std.specs.Prelude.{◌≡◌, ◌<◌, ◌≤◌, ◌*◌, ◌^◌, ℕ, ℤ, List, length}
 use Rattle.pcm_feeder.specs.declared.pace.Pace.{Pace}
 use Rattle.pcm_feeder.specs.declared.pace.Step.{Step}
 use Rattle.pcm_feeder.specs.declared.stage.Moved.{Moved}
 use Rattle.pcm_feeder.specs.Filters.{Filters}
-use Rattle.pcm_feeder.specs.Pace.{rate_by, IsStep}
+use Rattle.pcm_feeder.specs.Pace.{rate_by, factor_of, parts_of, IsStep}
 use Rattle.feed_rate.specs.Methods.{channels_by, lookahead_by, HasFilter}
 use Rattle.feed_rate.specs.Outputs.{Seen, tail_past, AreEnough, PutsNext}
 
@@ -17,6 +17,10 @@ pub record CanWalk (pace : Pace) (seen : Seen) (tables : Filters) (input : List 
   pub room : moved.given * channels_by seen.method ≤ length output
   pub there : moved.eaten * channels_by seen.method ≤ length input
   pub enough : AreEnough pace moved.eaten moved.given
+
+-- so many parts of the whole are one part of any step's phase
+abbrev pub IsFactor : Pace → ℕ → Type 0
+IsFactor pace factor = (phase : ℕ) → phase < parts_of pace → phase * factor ≡ phase * factor_of pace
 
 -- the next outputs stand at the front, the frames eaten are taken in, and the feed has ended
 pub record HasWalked (pace : Pace) (before after : Seen) (tables : Filters) (input : List ℤ)

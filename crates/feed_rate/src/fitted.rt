@@ -5,7 +5,7 @@ ghost use Rattle.pcm_feeder.specs.Fractions.{IsAhead, IsPhase};
 ghost use Rattle.pcm_feeder.specs.Limits.{AreChannels, IsRate};
 ghost use Rattle.pcm_feeder.specs.Pace.{rate_by, phase_by, ahead_by, factor_of};
 ghost use Rattle.feed_rate.specs.Methods.{channels_by};
-ghost use Rattle.feed_rate.specs.Walks.{CanWalk, HasWalked};
+ghost use Rattle.feed_rate.specs.Walks.{CanWalk, HasWalked, IsFactor};
 
 use crate::{Interpolator, Point};
 use pcm_feeder::{Moved, Pace, Progress, Step, Tables};
@@ -72,13 +72,24 @@ impl Fitted {
             tables.now input.now moved output.old output.new result }
     {
         let channels = interpolator.channels();
+        let factor = self.factor();
         match channels {
-            1 => self.walk(interpolator, 1, tables, input, moved, output),
-            2 => self.walk(interpolator, 2, tables, input, moved, output),
-            4 => self.walk(interpolator, 4, tables, input, moved, output),
-            6 => self.walk(interpolator, 6, tables, input, moved, output),
-            8 => self.walk(interpolator, 8, tables, input, moved, output),
-            _ => self.walk(interpolator, channels, tables, input, moved, output),
+            1 => self.walk(interpolator, 1, factor, tables, input, moved, output),
+            // From a rate to a part of it each output lies on a frame, and a factor of 0 leaves no phase in the loop.
+            2 if self.pace.dst() == 1 => self.walk(
+                interpolator,
+                2,
+                0,
+                tables,
+                input,
+                moved,
+                output,
+            ),
+            2 => self.walk(interpolator, 2, factor, tables, input, moved, output),
+            4 => self.walk(interpolator, 4, factor, tables, input, moved, output),
+            6 => self.walk(interpolator, 6, factor, tables, input, moved, output),
+            8 => self.walk(interpolator, 8, factor, tables, input, moved, output),
+            _ => self.walk(interpolator, channels, factor, tables, input, moved, output),
         }
     }
 
@@ -89,6 +100,7 @@ impl Fitted {
         &self,
         interpolator: &mut I,
         channels: usize,
+        factor: u32,
         tables: &Tables,
         input: &[i32],
         moved: Moved,
@@ -96,6 +108,7 @@ impl Fitted {
     ) -> Step
         requires channels { channels ≡ channels_by (I.seen interpolator.old).method }
         requires limits { AreChannels channels }
+        requires factor { IsFactor self.now.pace factor }
         requires walk { CanWalk self.now.pace (I.seen interpolator.old) tables.now input.now moved
             output.old }
         ensures { HasWalked self.now.pace (I.seen interpolator.old) (I.seen interpolator.new)
@@ -103,7 +116,6 @@ impl Fitted {
     {
         let Fitted { pace, used, whole } = *self;
         let start = pace.place(used);
-        let factor = self.factor();
         let mut step = pace.first();
         for j in 0..moved.given {
             let at = j * channels;

@@ -13,12 +13,12 @@ product-is p d m n above past near small =
     let high : (n * m) * d < ((q + 1) * p) * d = omega (arith, mul-le-mul_left {m = m * d} {n = p + d} n near, mul-le-mul_right {m = n + 1} {n = q * d + d} p (omega arith)) in
     div-eq_of_lt-le {k = q} p {m = n * m} (le_of_mul-le-mul_right low above) (lt_of_mul-lt-mul_right d high)
 
--- the quotient of numbers whose quotient is below 2 ^ 32
-pub quotient-is : (d n : ℕ) → 16 < d → d < 2 ^ 18 → n < 2 ^ 32 * d → n * reciprocal_of d / 2 ^ 68 ≡ n / d
+-- the quotient of numbers whose quotient is below 2 ^ 33
+pub quotient-is : (d n : ℕ) → 32 < d → d < 2 ^ 18 → n < 2 ^ 33 * d → n * reciprocal_of d / 2 ^ 69 ≡ n / d
 quotient-is d n least most within =
-    let p = 2 ^ 68 in
+    let p = 2 ^ 69 in
     let split = div-add-mod' p d in
     let rest = mod-lt p {m = d} (omega arith) in
     let square = mul-le-mul_right {m = d} {n = 2 ^ 18} d (omega arith) in
-    let wide = mul-le-mul_right {m = n} {n = 2 ^ 32 * d} d (omega arith) in
+    let wide = mul-le-mul_right {m = n} {n = 2 ^ 33 * d} d (omega arith) in
     product-is p d (reciprocal_of d) n (omega arith) (omega arith) (omega arith) (omega arith)

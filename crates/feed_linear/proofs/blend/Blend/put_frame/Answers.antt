@@ -1,4 +1,4 @@
-use Rattle.std.proofs.Common.{◌≡◌, ◌+ℤ◌, ◌*ℤ◌, ◌-◌, get_or, pos, w32, FitsSigned, ap, ◌∙◌, rules, arith}
+use Rattle.std.proofs.Common.{◌+ℤ◌, ◌*ℤ◌, ◌-◌, get_or, pos, w32, FitsSigned, ◌∙◌, rules, arith}
 use Rattle.std.proofs.lemmas.Int.{to_z-of_z}
 use Rattle.pcm_num.specs.Floor.{floor_div}
 use Rattle.feed_linear.proofs.Blends.{put-sample}
@@ -12,9 +12,5 @@ loop-channel-preserved c =
     let sample_fits : FitsSigned w32 (get_or c.args.frame.now l.channel (pos 0)) = search rules in
     let next_fits : FitsSigned w32 (get_or c.args.next.now l.channel (pos 0)) = search rules in
     let result_fits : FitsSigned w32 c.sample.result = search rules in
-    let here : blend.here ≡ d - blend.next = omega (arith, blend.sum) in
-    let is = to_z-of_z w32 c.sample.result result_fits ∙ simp to_z-of_z at c.sample.ensures
-    ∙ ap (λ w. floor_div (get_or c.args.frame.now l.channel (pos 0) *ℤ pos w +ℤ get_or c.args.next.now l.channel (pos 0) *ℤ pos blend.next)
-    d) here in
-    put-sample (λ a b. floor_div (a *ℤ pos (d - blend.next) +ℤ b *ℤ pos blend.next) d) c.args.frame.now c.args.next.now l.output l.channel _
-    (omega arith) (omega arith) (omega arith) is l.invariant
+    put-sample (λ a b. floor_div (a *ℤ pos (d - blend.parts) +ℤ b *ℤ pos blend.parts) d) c.args.frame.now c.args.next.now l.output l.channel _
+    (omega arith) (omega arith) (omega arith) (to_z-of_z w32 c.sample.result result_fits ∙ simp to_z-of_z at c.sample.ensures) l.invariant

@@ -12,10 +12,11 @@ loop-k-preserved c =
     let k = c.loop-k.k in
     let channels = c.loop-k.invariant.channels in
     let next : k + 1 ≤ c.args.to = omega (arith, c.loop-k-test.true) in
-    let there : (k + 1) * window.channels ≤ length input = omega (arith, mul-le-mul_right window.channels next, c.requires.there) in
+    let all : c.args.to * window.channels ≤ length input = rw (← c.requires.channels) c.requires.there in
+    let there : (k + 1) * window.channels ≤ length input = omega (arith, mul-le-mul_right window.channels next, all) in
     let after : window_frames c.push.new.self ≡ moved_on (window_frames c.loop-k.self)
     (take (k * window.channels + window.channels - k * window.channels) (drop (k * window.channels) input)
-    ∷ []) = c.push.ensures.frames in
+    ∷ []) = rw (← c.requires.channels) c.push.ensures.frames in
     record {
       frames = eaten-more (window_frames window) (window_frames c.loop-k.self) (window_frames c.push.new.self) window.channels c.args.from k
           input (omega (arith, window.limits.least)) (omega (arith, c.loop-k.auto.k)) there

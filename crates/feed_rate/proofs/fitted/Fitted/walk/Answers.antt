@@ -71,7 +71,7 @@ loop-j-preserved g c =
     let was : (by.seen now).tail ≡ tail_after (by.seen now).method tail input (by.seen now).passed = c.loop-j.invariant.tail
     ∙ ap (λ m. tail_after m tail input (by.seen now).passed) (sym same) in
     let parts : point.parts ≡ step.phase * factor_of fitted.pace = c.at-point.ensures.parts
-    ∙ ap (λ n. step.phase * n) c.factor-factor.ensures in
+    ∙ c.requires.factor step.phase c.loop-j.invariant.step.below in
     let is : c.put_frame.new.output ≡ output_at method tables fitted.pace tail input j =
     c.put_frame.ensures.frame tail was
     ∙ ap (λ m. output_by m tables tail input point) same

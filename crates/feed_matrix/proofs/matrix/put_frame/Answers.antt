@@ -9,27 +9,28 @@ use Rattle.pcm_format.proofs.Streams.{length-positions}
 use Rattle.pcm_feeder.specs.Layouts.{in_layout, gathered}
 use Rattle.feed_matrix.specs.Weights.{weighted_sum}
 use Rattle.feed_matrix.proofs.Weights.{length-in_layout, row-at, row-gathers, filled-more}
-use Rattle.feed_matrix.proofs.matrix.Matrix.put_frame.Goals as goal
+use Rattle.feed_matrix.proofs.matrix.put_frame.Goals as goal
 
 pub loop-at-preserved : goal.loop-at-preserved
 loop-at-preserved c =
-    let matrix = c.args.self.now in
+    let from = c.args.from in
+    let to = c.args.to in
     let l = c.loop-at in
     let frame = c.args.frame.now in
-    let row = get_or matrix.weights l.at [] in
-    let there : l.at < length (positions_of matrix.to) = omega (
+    let row = get_or c.args.rows.now l.at [] in
+    let there : l.at < length (positions_of to) = omega (
       arith,
       c.loop-at-test.true,
       c.requires.output,
       length-positions
-          matrix.to,
+          to,
     ) in
-    let target = get_or (positions_of matrix.to) l.at M in
+    let target = get_or (positions_of to) l.at M in
     let fits : FitsSigned w32 c.gathered.result = search rules in
-    let front = ap (λ n. take n row) c.requires.frame ∙ row-at matrix.from matrix.to matrix.weights l.at M matrix.table there in
-    filled-more (in_layout matrix.from matrix.to frame) l.output l.at _ (pos 0) (omega (arith, c.loop-at.auto.output, c.loop-at-test.true))
-    (omega (arith, there, length-in_layout matrix.from matrix.to frame, length-positions matrix.to))
+    let front = ap (λ n. take n row) c.requires.frame ∙ row-at from to c.args.rows.now l.at M c.requires.rows there in
+    filled-more (in_layout from to frame) l.output l.at _ (pos 0) (omega (arith, c.loop-at.auto.output, c.loop-at-test.true))
+    (omega (arith, there, length-in_layout from to frame, length-positions to))
     (to_z-of_z w32 c.gathered.result fits ∙ c.gathered.ensures ∙ ap (λ r. clamped 32 (floor_div (weighted_sum r frame) 65536)) front
-    ∙ row-gathers matrix.from matrix.to target frame
-    ∙ sym (get_or-map (λ p. gathered matrix.from matrix.to p frame) (positions_of matrix.to) l.at M (pos 0) there))
+    ∙ row-gathers from to target frame
+    ∙ sym (get_or-map (λ p. gathered from to p frame) (positions_of to) l.at M (pos 0) there))
     l.invariant

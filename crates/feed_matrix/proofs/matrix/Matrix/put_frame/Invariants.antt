@@ -1,6 +1,0 @@
-use Rattle.std.proofs.Common.{◌≡◌, take}
-use Rattle.pcm_feeder.specs.Layouts.{in_layout}
-use Rattle.feed_matrix.proofs.matrix.Matrix.put_frame.Given as goal
-
-abbrev pub invariant-loop-at : goal.invariant-loop-at
-invariant-loop-at l = take l.at l.output ≡ take l.at (in_layout l.self.from l.self.to l.frame)
