@@ -1,5 +1,6 @@
 -- The mixer device: what is asked of it, and the gains that it gives.
 use Rattle.std.specs.Prelude.{ℕ, List, Bool, true, false, ◌&&◌, nat_le, nat_lt, ◌==◌, if◌then◌else◌, replicate, slice_index_or, slice_set, Result, Ok, Err}
+use Rattle.std.specs.List.{list_all}
 use Rattle.pcm_feeder.specs.declared.stage.Gain.{Gain}
 use Rattle.pcm_oss.specs.declared.event.TheConstants.{SLOTS}
 use Rattle.pcm_oss.specs.declared.mix_request.MixRequest.{MixRequest}
@@ -28,6 +29,10 @@ slot_volume mixer slot = slice_index_or mixer.volumes slot VOLUME
 -- it isn't heard
 abbrev pub is_muted : Levels → ℕ → Bool
 is_muted mixer slot = slice_index_or mixer.muted slot false
+
+-- the volume of all that is mixed and those of the slots are volumes
+abbrev pub are_volumes : ℕ → List ℕ → Bool
+are_volumes master volumes = is_volume master && list_all is_volume volumes
 
 -- ---- requests
 

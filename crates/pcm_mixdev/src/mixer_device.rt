@@ -1,12 +1,14 @@
 //! What the mixer device holds: it is asked for volumes, and gives gains.
 
-ghost use Rattle.std.specs.Prelude.{◌≡◌, ◌<◌, ◌≤◌, IsTrue};
+ghost use Rattle.std.specs.Prelude.{◌≡◌, ◌<◌, ◌≤◌, IfSome, IsTrue, is_some};
+ghost use Rattle.std.specs.List.{list_all};
 ghost use Rattle.pcm_feeder.specs.Limits.{IsGain};
+ghost use Rattle.pcm_oss.specs.Volumes.{is_volume};
 ghost use Rattle.pcm_oss.specs.declared.event.TheConstants.{SLOTS};
 
 use crate::acceptance::may_ask;
 use pcm_feeder::Gain;
-use pcm_oss::{Answer, Errno, MixRequest, SLOTS, VOLUME, gain_of};
+use pcm_oss::{Answer, Errno, MixRequest, SLOTS, VOLUME, gain_of, is_volume};
 use std::marker::Model;
 
 /// The volume of all that is mixed, and of each slot its volume and whether it is muted. They are a slot's own, and not of the channel that
@@ -31,7 +33,7 @@ impl Model for MixDev {
 }
 
 impl MixDev {
-    ghost use Rattle.pcm_mixdev.specs.Mixers.{asked_mixer, full_mixer, master_gain, may_ask, mixer_after, mixer_reply, slot_gain, told_mixer};
+    ghost use Rattle.pcm_mixdev.specs.Mixers.{are_volumes, asked_mixer, full_mixer, master_gain, may_ask, mixer_after, mixer_reply, slot_gain, told_mixer};
 
     /// All is at full volume, and no slot is muted.
     pub fn new() -> MixDev
@@ -42,6 +44,43 @@ impl MixDev {
             volumes: [VOLUME; SLOTS],
             muted: [false; SLOTS],
         }
+    }
+
+    /// Holds these volumes, of all that is mixed and of each slot, and these mutes, if each volume is one.
+    pub fn with_levels(master: u32, volumes: [u32; SLOTS], muted: [bool; SLOTS]) -> Option<MixDev>
+        ensures made { IfSome result (λ made. made ≡ record { master = master; volumes = volumes; muted = muted }) }
+        ensures some { is_some result ≡ are_volumes master volumes }
+    {
+        if is_volume(master) && are_volumes(&volumes) {
+            Some(MixDev {
+                master,
+                volumes,
+                muted,
+            })
+        } else {
+            None
+        }
+    }
+
+    /// The volume of all that is mixed.
+    pub fn volume(&self) -> u32
+        ensures { result ≡ self.now.master }
+    {
+        self.master
+    }
+
+    /// The volume of each slot.
+    pub fn volumes(&self) -> [u32; SLOTS]
+        ensures { result ≡ self.now.volumes }
+    {
+        self.volumes
+    }
+
+    /// Whether each slot is muted.
+    pub fn muted(&self) -> [bool; SLOTS]
+        ensures { result ≡ self.now.muted }
+    {
+        self.muted
     }
 
     /// Holds the volumes and mutes that another one holds.
@@ -109,4 +148,16 @@ impl MixDev {
     {
         gain_of(self.master)
     }
+}
+
+// Whether each of these is a volume.
+fn are_volumes(volumes: &[u32]) -> bool
+    ensures { result ≡ list_all is_volume volumes.now }
+{
+    for volume in volumes {
+        if !is_volume(*volume) {
+            return false;
+        }
+    }
+    true
 }

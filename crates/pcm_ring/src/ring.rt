@@ -77,6 +77,16 @@ impl ByteRing {
         self.buffer.read_into(out)
     }
 
+    /// Copies the bytes that wait, and leaves them.
+    pub fn copy_to(&self, out: &mut [u8])
+        requires { length out.old ≡ length self.now.bytes }
+        ensures { out.new ≡ self.now.bytes }
+    {
+        let (front, back) = self.buffer.as_slices();
+        out[..front.len()].copy_from_slice(front);
+        out[front.len()..].copy_from_slice(back);
+    }
+
     /// Holds the bytes that another ring holds, and is of its size, for which there is room.
     pub fn copy_from(&mut self, other: &ByteRing)
         requires { other.now.size ≤ self.old.max }
