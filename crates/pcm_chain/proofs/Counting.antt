@@ -29,13 +29,16 @@ near-change src dst channels lookahead is near =
       lookahead = near;
     }
 
--- c outputs need at most 48 frames each, and 33 more
+-- c outputs last no longer than 48 frames each
+pub place-near : (rate : Rate) (c : ℕ) → IsNear rate → c * rate.src / rate.dst ≤ 48 * c
+place-near rate c near =
+    let product = mul-le-mul_right {m = rate.src} {n = 48 * rate.dst} c (omega (arith, near.src)) in
+    div-le_of_le-mul rate.dst {m = c * rate.src} {n = 48 * c} (omega (arith, product))
+
+-- and need at most as many, and 33 more
 pub need-near : (rate : Rate) (c : ℕ) → IsNear rate → need rate c ≤ 48 * c + 33
 need-near rate zero near = omega arith
-need-near rate (suc c) near =
-    let product = mul-le-mul_right {m = rate.src} {n = 48 * rate.dst} c (omega (arith, near.src)) in
-    let place : c * rate.src / rate.dst ≤ 48 * c = div-le_of_le-mul rate.dst {m = c * rate.src} {n = 48 * c} (omega (arith, product)) in
-    omega (arith, place, near.lookahead)
+need-near rate (suc c) near = omega (arith, place-near rate c near, near.lookahead)
 
 -- one output more needs few frames more
 pub next-near : (rate : Rate) (c : ℕ) → IsNear rate → need rate (c + 1) ≤ need rate c + 48
@@ -218,10 +221,10 @@ settled rate s d eaten given j near period above within t is =
         omega (arith, first)
 
 -- what was left out grows by whole periods
-pub stands-less : (rate : Rate) (s d : ℕ) (counts : Counts) (eaten given more_eaten more_given j left_eaten left_given : ℕ) → IsPeriod rate s d → StandFor rate counts eaten given
-    → counts.eaten + more_eaten ≡ left_eaten + j * s → counts.given + more_given ≡ left_given + j * d → (0 < j → 0 < left_given)
-    → StandFor rate (record { eaten = left_eaten; given = left_given }) (eaten + more_eaten) (given + more_given)
-stands-less rate s d counts eaten given more_eaten more_given j left_eaten left_given period h e g begun = record {
+pub stands-less : (rate : Rate) (s d : ℕ) (counts : Counts) (eaten given j left_eaten left_given : ℕ) → IsPeriod rate s d → StandFor rate counts eaten given
+    → counts.eaten ≡ left_eaten + j * s → counts.given ≡ left_given + j * d → (0 < j → 0 < left_given)
+    → StandFor rate (record { eaten = left_eaten; given = left_given }) eaten given
+stands-less rate s d counts eaten given j left_eaten left_given period h e g begun = record {
   eaten_before = h.eaten_before + j * s;
   given_before = h.given_before + j * d;
   period = record { src_above = period.src_above; dst_above = period.dst_above; same = omega (arith, h.period.same, ap (λ z. j * z) period.same) };
@@ -230,9 +233,21 @@ stands-less rate s d counts eaten given more_eaten more_given j left_eaten left_
   begun = λ some. some-left j begun g some;
 }
   where
-    some-left : (j : ℕ) → (0 < j → 0 < left_given) → counts.given + more_given ≡ left_given + j * d → 0 < h.given_before + j * d → (0 < left_given) ⊎ (rate ≡ unchanged)
+    some-left : (j : ℕ) → (0 < j → 0 < left_given) → counts.given ≡ left_given + j * d → 0 < h.given_before + j * d → (0 < left_given) ⊎ (rate ≡ unchanged)
     some-left zero begun g some = elim (h.begun (omega arith)) [ inl start ↦ inl (omega arith) | inr level ↦ inr level ]
     some-left (suc i) begun g some = inl (begun (omega arith))
+
+-- counts stand for all frames after a block too
+pub stands-more : (rate : Rate) (counts : Counts) (eaten given more_eaten more_given : ℕ) → StandFor rate counts eaten given
+    → StandFor rate (record { eaten = counts.eaten + more_eaten; given = counts.given + more_given }) (eaten + more_eaten) (given + more_given)
+stands-more rate counts eaten given more_eaten more_given h = record {
+  eaten_before = h.eaten_before;
+  given_before = h.given_before;
+  period = h.period;
+  eaten_is = omega (arith, h.eaten_is);
+  given_is = omega (arith, h.given_is);
+  begun = λ some. elim (h.begun some) [ inl start ↦ inl (omega (arith, start)) | inr level ↦ inr level ];
+}
 
 -- without a change of rate frames may be left out at any time, as many on both sides
 pub stands-level : (rate : Rate) (counts : Counts) (eaten given more : ℕ) → rate ≡ unchanged → StandFor rate counts eaten given → StandFor rate counts (eaten + more) (given + more)
@@ -546,6 +561,17 @@ offers-far rate ended n quiet given waiting want advance h = (gives (cases_lt ad
 -- the counts of an empty stream stand for it
 pub none-stands : (rate : Rate) → IsRatio rate → StandFor rate (record { eaten = 0; given = 0 }) 0 0
 none-stands rate ratio = record {
+  eaten_before = 0;
+  given_before = 0;
+  period = record { src_above = ratio.src; dst_above = ratio.dst; same = omega arith };
+  eaten_is = omega arith;
+  given_is = omega arith;
+  begun = λ some. absurd (omega arith);
+}
+
+-- and all counts stand for themselves
+pub all-stand : (rate : Rate) (counts : Counts) → IsRatio rate → StandFor rate counts counts.eaten counts.given
+all-stand rate counts ratio = record {
   eaten_before = 0;
   given_before = 0;
   period = record { src_above = ratio.src; dst_above = ratio.dst; same = omega arith };

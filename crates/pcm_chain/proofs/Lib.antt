@@ -8,6 +8,8 @@ pub mod Pulling
 pub mod Resuming
 pub mod Standing
 pub mod Streaming
+pub mod Telling
 pub mod Waiting
 pub mod Pushing
 pub mod Giving
+pub mod Known

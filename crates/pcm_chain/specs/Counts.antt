@@ -1,6 +1,7 @@
 -- The counts of a chain: how many frames it has eaten and given, without whole periods, and what a block moves them by.
-use Rattle.std.specs.Prelude.{◌≡◌, ◌⊎◌, ◌<◌, ◌≤◌, ℕ, ◌+◌, ◌-◌, ◌*◌, min, max, Bool, if◌then◌else◌}
+use Rattle.std.specs.Prelude.{◌≡◌, ◌⊎◌, ◌<◌, ◌≤◌, ℕ, ◌+◌, ◌-◌, ◌*◌, ◌/◌, ◌%◌, min, max, pos, ◌+ℤ◌, Bool, if◌then◌else◌}
 use Rattle.pcm_format.specs.declared.settings.TheConstants.{RATE_LEAST, RATE_MOST}
+use Rattle.pcm_feeder.specs.declared.stage.Progress.{Progress}
 use Rattle.pcm_rate.specs.declared.rate.Rate.{Rate}
 use Rattle.pcm_rate.specs.Rates.{unchanged, IsRatio, IsPeriod, need, can, len}
 use Rattle.pcm_chain.specs.declared.staging.TheConstants.{BLOCK_FRAMES}
@@ -64,6 +65,15 @@ pub record StandFor (rate : Rate) (counts : Counts) (eaten given : ℕ) : Type 0
   pub eaten_is : eaten ≡ counts.eaten + eaten_before
   pub given_is : given ≡ counts.given + given_before
   pub begun : 0 < given_before → (0 < counts.given) ⊎ (rate ≡ unchanged)
+
+-- counts stand for all that others stand for
+abbrev pub StandsFurther : Rate → Counts → Counts → Type 0
+StandsFurther rate counts new = (eaten given : ℕ) → StandFor rate counts eaten given → StandFor rate new eaten given
+
+-- the progress of a stage of a rate that has eaten and given so many frames
+pub record IsProgress (rate : Rate) (eaten given : ℕ) (progress : Progress) : Type 0 where
+  pub phase : progress.phase ≡ given * rate.src % rate.dst
+  pub ahead : progress.ahead +ℤ pos (given * rate.src / rate.dst) ≡ pos eaten
 
 -- counts, moved on by a block
 abbrev pub moved_on_by : Counts → Advance → Counts

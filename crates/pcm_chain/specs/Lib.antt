@@ -9,3 +9,4 @@ pub mod Pushes
 pub mod Gives
 pub mod Resumes
 pub mod Rings
+pub mod Pasts

@@ -8,6 +8,7 @@ ghost use Rattle.pcm_chain.specs.Counts.{AreBounded};
 ghost use Rattle.pcm_chain.specs.declared.staging.TheConstants.{BLOCK_SAMPLES};
 
 use crate::counts::{Counts, RatedCounts};
+use crate::past::{keep_stages, plan_past, tell_stages};
 use crate::stages::{feed_stages, fit_stages, resume_stages};
 use crate::staging::{BLOCK_SAMPLES, Staging};
 use pcm_feeder::{Feeder, Gain, RackOf, SevenOf, Tables, UNITY};
@@ -58,12 +59,14 @@ impl<B: Feeder> ChainOf<B> {
     ghost use Rattle.pcm_chain.specs.Chains.{boxes_in, counts_in, marks_in, plan_in, AreFitted, IsOfKinds, ChainStands, StaysFitted};
     ghost use Rattle.pcm_chain.specs.Counts.{MakeABlock, AllowABlock};
     ghost use Rattle.pcm_chain.specs.Gives.{filling_frames, CanGive, GivesABlock, GivesABlockFar, GivesExactly, GivesOn, GivesOnFar};
+    ghost use Rattle.pcm_chain.specs.Pasts.{past_of, past_sizes, CanBeTold, HasTold};
     ghost use Rattle.pcm_chain.specs.Pulls.{waiting_frames, CanPull, GoesOnFar, LeavesBehind, PullsOn};
     ghost use Rattle.pcm_chain.specs.Pushes.{pushed_frames, room_for, CanRecord, HasRecorded, PushesOn, StaysRecording};
     ghost use Rattle.pcm_chain.specs.Resumes.{Resumes};
     ghost use Rattle.pcm_chain.specs.Rings.{put_bytes, GrowsBy};
     ghost use Rattle.pcm_chain.specs.declared.staging.TheConstants.{BLOCK_FRAMES};
     ghost use Rattle.pcm_chain.specs.declared.chain.TheConstants.{PUSHED_FRAMES};
+    ghost use Rattle.pcm_chain.specs.declared.past.TheConstants.{PAST_SAMPLES};
 
     /// A chain with the boxes of a rack and no stage. All memory of the chain is taken here.
     pub fn new(alloc: Global, rack: RackOf<B>) -> Result<ChainOf<B>, AllocError>
@@ -100,10 +103,17 @@ impl<B: Feeder> ChainOf<B> {
         ensures records { (tables : Filters) → HasRecorded B.kept tables self.new [] }
         ensures exactly { (tables : Filters) → GivesExactly B.kept tables self.new [] 0 }
     {
-        // The old counts are of the old plan's rate.
+        self.go_by(plan);
+        self.restart();
+    }
+
+    // Goes by another plan. The old counts are of the old plan's rate, so there are none then.
+    fn go_by(&mut self, plan: &Plan)
+        ensures plan { plan_in self.new ≡ plan.now }
+        ensures boxes { boxes_in self.new ≡ boxes_in self.old }
+    {
         self.counts = Counts::none();
         self.plan = plan.copy();
-        self.restart();
     }
 
     /// Begins an empty stream by the same plan. Takes no memory.
@@ -127,9 +137,7 @@ impl<B: Feeder> ChainOf<B> {
         requires fitted { AreFitted B.kept other.now }
         ensures { Resumes B.kind B.kept B.mark other.now self.old self.new }
     {
-        // The old counts are of the old plan's rate, the other's of its own: between the two there are none.
-        self.counts = Counts::none();
-        self.plan = other.plan.copy();
+        self.go_by(&other.plan);
         self.counts = other.counts;
         resume_stages(
             &mut self.boxes,
@@ -137,6 +145,35 @@ impl<B: Feeder> ChainOf<B> {
             self.plan.stages(),
             &mut self.staging.now,
         );
+    }
+
+    /// How many samples of the past the chain keeps.
+    pub fn past_size(&self) -> usize
+        ensures size { result ≡ past_sizes (plan_in self.now).stages }
+        ensures most { result ≤ PAST_SAMPLES }
+    {
+        plan_past(&self.plan)
+    }
+
+    /// Copies these samples, those of one stage after those of another, frame by frame.
+    pub fn keep(&self, past: &mut [i32])
+        requires fitted { AreFitted B.kept self.now }
+        requires size { length past.old ≡ past_sizes (plan_in self.now).stages }
+        ensures { past.new ≡ past_of B.kept self.now }
+    {
+        keep_stages(&self.boxes, self.plan.stages(), past);
+    }
+
+    /// Goes on, by a plan, where so many frames were eaten and given and these samples were kept of them. Takes no memory.
+    pub fn tell(&mut self, plan: &Plan, eaten: u64, given: u64, past: &[i32])
+        requires { CanBeTold B.kind plan.now eaten given past.now self.old }
+        ensures { HasTold B.kind B.kept B.mark plan.now eaten given past.now self.old self.new }
+    {
+        self.go_by(plan);
+        let all = Counts { eaten, given };
+        let told = RatedCounts::told(self.plan.rate(), self.plan.period(), all);
+        self.counts = told.counts;
+        tell_stages(&mut self.boxes, self.plan.stages(), told.progress(), past);
     }
 
     /// Takes frames out of a ring, and gives at most `want` frames at the front of `out`. Where the stream

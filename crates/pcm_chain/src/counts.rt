@@ -3,10 +3,11 @@
 ghost use Rattle.std.specs.Prelude.{◌≡◌, ◌<◌, ◌≤◌, ◌+◌, ◌-◌, min};
 ghost use Rattle.std.proofs.Props.{props};
 ghost use Rattle.pcm_rate.specs.Rates.{IsPeriod, need, can};
-ghost use Rattle.pcm_chain.specs.Counts.{allowed_in_all, eats_all, fed_in_all, moved_on_by, AreBounded, Goes, IsNear, InTime, MakeABlock, NeedABlock, AllowABlock, StandOn};
+ghost use Rattle.pcm_chain.specs.Counts.{allowed_in_all, eats_all, fed_in_all, moved_on_by, AreBounded, Goes, IsNear, InTime, MakeABlock, NeedABlock, AllowABlock, IsProgress, StandOn, StandsFurther};
 ghost use Rattle.pcm_chain.specs.declared.staging.TheConstants.{BLOCK_FRAMES};
 
 use crate::staging::BLOCK_FRAMES;
+use pcm_feeder::Progress;
 use pcm_rate::Rate;
 
 /// Frames eaten out of a ring and frames given, without the whole periods of a rate: as many on both sides as last equally
@@ -45,6 +46,37 @@ impl Counts {
 }
 
 impl RatedCounts {
+    /// Counts without whole periods, which stand for these: `period` is how many frames and outputs one has.
+    pub fn told(rate: Rate, period: (u32, u32), all: Counts) -> RatedCounts
+        requires near { IsNear rate }
+        requires in_time { InTime rate all }
+        requires period { IsPeriod rate period.0 period.1 }
+        requires outputs { 0 < period.1 }
+        requires within { period.1 ≤ rate.dst }
+        ensures rate { result.rate ≡ rate }
+        ensures stands { StandsFurther rate all result.counts }
+    {
+        let (frames, outputs) = (u64::from(period.0), u64::from(period.1));
+        let periods = all.given.saturating_sub(1) / outputs;
+        let counts = Counts {
+            eaten: all.eaten - periods * frames,
+            given: all.given - periods * outputs,
+        };
+        RatedCounts { rate, counts }
+    }
+
+    /// How far a converter is that has eaten and given so many.
+    pub fn progress(self) -> Progress
+        ensures { IsProgress self.rate (fed_in_all self.rate self.counts) self.counts.given result }
+    {
+        let parts = self.counts.given * u64::from(self.rate.src);
+        let dst = u64::from(self.rate.dst);
+        Progress {
+            phase: (parts % dst) as u32,
+            ahead: self.fed() as i64 - (parts / dst) as i64,
+        }
+    }
+
     /// How many of `want` outputs make a block: no more than a block's frames are eaten for them.
     pub fn block(self, want: usize) -> usize
         requires { 0 < want }
@@ -133,19 +165,15 @@ impl RatedCounts {
         requires few { advance.given ≤ BLOCK_FRAMES }
         requires eaten { advance.eaten ≤ BLOCK_FRAMES }
         requires period { IsPeriod self.rate period.0 period.1 }
-        requires frames { 0 < period.0 }
         requires outputs { 0 < period.1 }
         requires within { period.1 ≤ self.rate.dst }
         ensures bounded { AreBounded self.rate result }
         ensures stands { StandOn self.rate self.counts advance result }
     {
-        let (frames, outputs) = (u64::from(period.0), u64::from(period.1));
-        let eaten = self.counts.eaten + advance.eaten as u64;
-        let given = self.counts.given + advance.given as u64;
-        let periods = given.saturating_sub(1) / outputs;
-        Counts {
-            eaten: eaten - periods * frames,
-            given: given - periods * outputs,
-        }
+        let all = Counts {
+            eaten: self.counts.eaten + advance.eaten as u64,
+            given: self.counts.given + advance.given as u64,
+        };
+        RatedCounts::told(self.rate, period, all).counts
     }
 }

@@ -4,7 +4,9 @@
 
 mod chain;
 mod counts;
+mod past;
 mod stages;
 mod staging;
 
 pub use chain::{Chain, ChainOf, PUSHED_FRAMES, Pulled, Pushed};
+pub use past::{PAST_SAMPLES, plan_past};

@@ -70,8 +70,8 @@ pub fn resume_stages<B: Feeder>(
     }
 }
 
-// Copies what the box of a stage keeps, and tells how far it is.
-fn keep_stage<B: Feeder>(boxes: &SevenOf<B>, spec: Spec, samples: &mut [i32]) -> Progress
+/// Copies what the box of a stage keeps, and tells how far it is.
+pub fn keep_stage<B: Feeder>(boxes: &SevenOf<B>, spec: Spec, samples: &mut [i32]) -> Progress
     requires { CanCopy spec (kept_in B.kept boxes.now spec) samples.old }
     ensures { IsKeptAs (kept_in B.kept boxes.now spec) result samples.new }
 {
@@ -86,8 +86,13 @@ fn keep_stage<B: Feeder>(boxes: &SevenOf<B>, spec: Spec, samples: &mut [i32]) ->
     }
 }
 
-// Lets the box of a stage go on from what was kept. The other boxes keep what they kept.
-fn resume_stage<B: Feeder>(boxes: &mut SevenOf<B>, spec: Spec, progress: Progress, samples: &[i32])
+/// Lets the box of a stage go on from what was kept. The other boxes keep what they kept.
+pub fn resume_stage<B: Feeder>(
+    boxes: &mut SevenOf<B>,
+    spec: Spec,
+    progress: Progress,
+    samples: &[i32],
+)
     requires kinds { HaveKinds B.kind boxes.old }
     requires can { CanResume spec progress samples.now }
     ensures { HasResumed B.kind B.kept B.mark spec progress samples.now boxes.old boxes.new }
@@ -218,8 +223,8 @@ fn tell_bits(samples: &[i32])
     }
 }
 
-// The channels that a stage takes.
-fn channels_in(spec: Spec) -> usize
+/// The channels that a stage takes.
+pub fn channels_in(spec: Spec) -> usize
     ensures { result ≡ channels_in spec }
 {
     match spec {
@@ -243,8 +248,8 @@ fn channels_out(spec: Spec) -> usize
     }
 }
 
-// How many frames of the past a stage keeps.
-fn history(spec: Spec) -> usize
+/// How many frames of the past a stage keeps.
+pub fn history(spec: Spec) -> usize
     requires { IsSpec spec }
     ensures { result ≡ history spec }
 {
