@@ -6,3 +6,4 @@ pub mod Far
 pub mod Pieces
 pub mod Moving
 pub mod Resuming
+pub mod Telling

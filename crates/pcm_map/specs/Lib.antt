@@ -1,2 +1,3 @@
 pub mod Channels
 pub mod Pieces
+pub mod Telling

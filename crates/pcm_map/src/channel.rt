@@ -55,6 +55,7 @@ impl<B: Feeder> MapChannelOf<B> {
     ghost use Rattle.pcm_map.specs.declared.channel.TheConstants.{PIECE_FRAMES};
     ghost use Rattle.pcm_map.specs.Pieces.{MapGives};
     ghost use Rattle.pcm_map.specs.Channels.{area_of, CanMixMap, ClosesMap, CountsFit, IsMapReady, MapAddsTo, MapMoves, MapTakes, MapTurns, MayAskMap, PokesArea, RecutsArea};
+    ghost use Rattle.pcm_map.specs.Telling.{CanTellMap, HasToldMap};
 
     /// Whether the channel is open, and hasn't started.
     pub fn is_at_rest(&self) -> bool
@@ -105,6 +106,24 @@ impl<B: Feeder> MapChannelOf<B> {
     {
         self.book = self.book.closed();
         self.path.restart();
+    }
+
+    /// Goes on as the channel whose book this was and, unless it is free, with the samples that its chain kept of the past. The area
+    /// stays as it is: what stood in that one's is put there by the caller. Takes no memory.
+    pub fn tell(&mut self, tables: &Tables, book: MapBook, past: &[i32])
+        requires { CanTellMap B.kind tables.now book past.now self.old }
+        ensures { HasToldMap B.kind B.kept B.mark tables.now book past.now self.old self.new }
+    {
+        self.book = book;
+        let opening = book.opening;
+        if book.is_free() {
+            begin_run(&mut self.path, tables, &opening);
+        } else {
+            let (eaten, given) = (book.eaten, book.given);
+            self.path
+                .tell(Way::Map, tables, &opening, &[], eaten, given, past);
+            self.path.ring.set_size(RING_BYTES as usize);
+        }
     }
 
     /// Adds the channel's frames to a block of the mix at the gain of its slot, as many as an interrupt that mixes `n` frames gets: what they

@@ -1,3 +1,4 @@
 pub mod Ways
 pub mod Paths
 pub mod Resumes
+pub mod Telling

@@ -5,5 +5,5 @@
 mod path;
 mod slots;
 
-pub use path::PathOf;
+pub use path::{PathOf, plan_of};
 pub use slots::{Channel, Made};

@@ -28,6 +28,7 @@ pub struct PathOf<B> {
 impl<B: Feeder> PathOf<B> {
     ghost use Rattle.pcm_path.specs.Paths.{CanBegin, HasBegun, HasBoxes, HasEnded, IsMadeOf};
     ghost use Rattle.pcm_path.specs.Resumes.{CanResumePath, PathResumes};
+    ghost use Rattle.pcm_path.specs.Telling.{CanTellPath, HasToldPath};
 
     /// A path of a device with the boxes of a rack, for no opening yet. All its memory is taken here.
     pub fn new(alloc: Global, device: Device, rack: RackOf<B>) -> Result<PathOf<B>, AllocError>
@@ -65,6 +66,29 @@ impl<B: Feeder> PathOf<B> {
         self.chain.restart();
     }
 
+    /// A run of an opening goes on from what was kept of it: these bytes wait in the ring, so many frames were eaten and given, and
+    /// these are the samples of the past. Takes no memory.
+    pub fn tell(
+        &mut self,
+        way: Way,
+        tables: &Tables,
+        opening: &Opening,
+        waiting: &[u8],
+        eaten: u64,
+        given: u64,
+        past: &[i32],
+    )
+        requires { CanTellPath B.kind way tables.now opening.now waiting.now eaten given past.now
+            self.old }
+        ensures { HasToldPath B.kind B.kept B.mark way tables.now opening.now waiting.now
+            eaten given past.now self.old self.new }
+    {
+        self.begin(way, tables, opening);
+        self.ring.put(waiting);
+        let plan = plan_of(way, tables, &self.device, &opening.settings);
+        self.chain.tell(&plan, eaten, given, past);
+    }
+
     /// Goes on where another path of the same device is: with the bytes that wait there and, where somebody has that one, with all that its
     /// chain has eaten and given. Takes no memory.
     pub fn resume_from(&mut self, other: &PathOf<B>, held: bool)
@@ -78,8 +102,8 @@ impl<B: Feeder> PathOf<B> {
     }
 }
 
-// The plan from a client that plays or has a mapped area to the mix, or from the device to one that records.
-fn plan_of(way: Way, tables: &Tables, device: &Device, client: &Settings) -> Plan
+/// The plan from a client that plays or has a mapped area to the mix, or from the device to one that records.
+pub fn plan_of(way: Way, tables: &Tables, device: &Device, client: &Settings) -> Plan
     requires device { HasRates device.now }
     requires client { IsRate client.now.rate }
     ensures value { result ≡ plan_between way (seen tables.now device.now) client.now }

@@ -4,3 +4,4 @@ pub mod Held
 pub mod Moving
 pub mod Refilling
 pub mod Resuming
+pub mod Telling

@@ -35,6 +35,7 @@ pub struct PlayChannelOf<B> {
 impl<B: Feeder> PlayChannelOf<B> {
     ghost use Rattle.pcm_feeder.specs.Filters.{Filters};
     ghost use Rattle.pcm_play.specs.Channels.{AddsTo, CanMixPlay, ClosesBook, MayAskPlay, MayEndRun, PlayLeaves, PlayMoves, PlayTurns, SettlesBook};
+    ghost use Rattle.pcm_play.specs.Telling.{CanTellPlay, HasToldPlay};
 
     /// Whether nobody has the channel, and nothing of it is left to play.
     pub fn is_free(&self) -> bool
@@ -115,6 +116,23 @@ impl<B: Feeder> PlayChannelOf<B> {
         self.book = self.book.settled(rate, here);
         if self.book.written == 0 {
             self.path.restart();
+        }
+    }
+
+    /// Goes on as the channel whose book this was, with the bytes that waited in its ring and, unless it is free, the samples that its
+    /// chain kept of the past. Takes no memory.
+    pub fn tell(&mut self, tables: &Tables, book: PlayBook, waiting: &[u8], past: &[i32])
+        requires { CanTellPlay B.kind tables.now book waiting.now past.now self.old }
+        ensures { HasToldPlay B.kind B.kept B.mark tables.now book waiting.now past.now self.old self.new }
+    {
+        self.book = book;
+        let opening = book.opening;
+        if book.is_free() {
+            self.path.begin(Way::Play, tables, &opening);
+        } else {
+            let (eaten, given) = (book.eaten, book.given);
+            self.path
+                .tell(Way::Play, tables, &opening, waiting, eaten, given, past);
         }
     }
 

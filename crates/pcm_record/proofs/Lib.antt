@@ -3,3 +3,4 @@ pub mod Held
 pub mod Moving
 pub mod Capturing
 pub mod Resuming
+pub mod Telling

@@ -36,6 +36,7 @@ pub struct RecordChannelOf<B> {
 impl<B: Feeder> RecordChannelOf<B> {
     ghost use Rattle.pcm_feeder.specs.Filters.{Filters};
     ghost use Rattle.pcm_record.specs.Channels.{CaptureFits, CaptureMoves, IsRecordServed, MayAskRecord, RecordIsSoFar, RecordLeaves, RecordMoves, RecordReads, RecordTurns};
+    ghost use Rattle.pcm_record.specs.Telling.{CanTellRecord, HasToldRecord};
 
     /// Whether nobody has the channel.
     pub fn is_free(&self) -> bool
@@ -84,6 +85,23 @@ impl<B: Feeder> RecordChannelOf<B> {
     {
         self.book = self.book.closed();
         self.path.restart();
+    }
+
+    /// Goes on as the channel whose book this was, with the bytes that waited in its ring and, unless it is free, the samples that its
+    /// chain kept of the past. Takes no memory.
+    pub fn tell(&mut self, tables: &Tables, book: RecordBook, waiting: &[u8], past: &[i32])
+        requires { CanTellRecord B.kind tables.now book waiting.now past.now self.old }
+        ensures { HasToldRecord B.kind B.kept B.mark tables.now book waiting.now past.now self.old self.new }
+    {
+        self.book = book;
+        let opening = book.opening;
+        if book.is_free() {
+            self.path.begin(Way::Record, tables, &opening);
+        } else {
+            let (eaten, given) = (book.captured, book.given);
+            self.path
+                .tell(Way::Record, tables, &opening, waiting, eaten, given, past);
+        }
     }
 
     /// Captures `frames` frames of the device, which are `input`, where the channel is running: all go through the chain, and of the
