@@ -1,5 +1,5 @@
--- An engine's clone: what its parts stand for, and that they are in order.
-use Rattle.std.proofs.Common.{◌≡◌, ℕ, ◌<◌, List, length, get_or, refl, sym, ◌∙◌, subst, arith}
+-- An engine that is like another one, as its clone is: what its parts stand for, and that they are in order.
+use Rattle.std.proofs.Common.{◌≡◌, ℕ, ◌<◌, List, length, get_or, refl, sym, ap, ◌∙◌, subst, arith}
 use Rattle.pcm_engine.specs.Types.{Filters, Kept, Kind, MapBook, PlayBook, Pool, RecordBook}
 use Rattle.pcm_desk.specs.Desk.{Desk, map_at, play_at, record_at}
 use Rattle.pcm_desk.specs.Device.{DeviceSeen, IsInLimits, device_filters}
@@ -11,19 +11,19 @@ use Rattle.pcm_record.specs.declared.channel.RecordChannelOf.{RecordChannelOf}
 use Rattle.pcm_record.specs.Channels.{RecordStands, RecordStandsAs}
 use Rattle.pcm_map.specs.declared.channel.MapChannelOf.{MapChannelOf}
 use Rattle.pcm_map.specs.Channels.{MapStands, MapStandsAs}
-use Rattle.pcm_bus.specs.Handovers.{HasMadeFar}
+use Rattle.pcm_bus.specs.Handovers.{HasMade, HasMadeFar}
 use Rattle.pcm_vchan.specs.declared.parent.ParentOf.{ParentOf}
-use Rattle.pcm_vchan.specs.Clones.{IsParentClone}
+use Rattle.pcm_vchan.specs.Clones.{IsParentClone, IsParentLike}
 use Rattle.pcm_vchan.specs.Parents.{HasBus, map_channels, play_channels, record_channels}
 use Rattle.pcm_vchan.proofs.Cloning.{books-alike}
 use Rattle.pcm_engine.specs.declared.descriptors.Descriptors.{Descriptors}
 use Rattle.pcm_engine.specs.declared.engine.EngineOf.{EngineOf}
-use Rattle.pcm_engine.specs.Clones.{IsCloneOf}
+use Rattle.pcm_engine.specs.Clones.{GoesOnAs, IsCloneOf}
 use Rattle.pcm_engine.specs.Desks.{desk_with}
 use Rattle.pcm_engine.specs.Engines.{AreReady, BooksAreHere, desk_of, device_of}
 use Rattle.pcm_engine.specs.Invariants.{PartsInOrder}
 use Rattle.pcm_engine.specs.Life.{KeepsPace}
-use Rattle.pcm_engine.specs.Stands.{PartsStand, RecordersStand, bytes_counted, bytes_kept, frames_captured, map_bytes_counted}
+use Rattle.pcm_engine.specs.Stands.{PartsStand, RecordersStand, bytes_counted, bytes_kept, frames_captured, map_bytes_counted, story_frames}
 use Rattle.pcm_engine.proofs.InOrder.{ready-all}
 
 -- ---- a channel that stands for whatever another one does, for the book that this one has
@@ -48,10 +48,26 @@ map-as kept filters other channel book bytes alike stood =
 
 -- ---- a parent
 
--- the desk of a parent's clone, with the same descriptors, is the parent's
-pub desk-alike : {B : Type 0} (kind : B → Kind) (kept : B → Kept) (parent clone : ParentOf B) (descriptors copied : Descriptors) → IsParentClone kind kept parent clone
+-- a clone is like its parent
+pub clone-like : {B : Type 0} (kind : B → Kind) (kept : B → Kept) (device : DeviceSeen) (parent clone : ParentOf B) → IsParentClone kind kept parent clone → IsParentLike kind kept device parent clone
+clone-like kind kept device parent clone is = record {
+  device_same = is.device;
+  playing = is.playing;
+  recording = is.recording;
+  mapped = is.mapped;
+  mixer = is.mixer;
+  plan = is.plan;
+  far = is.far device parent.handed;
+  made = λ x. is.made device x parent.handed;
+  ring = is.ring;
+  handed = is.handed;
+  mixed = is.mixed;
+}
+
+-- the desk of a parent that is like another one, with the same descriptors, is that one's
+pub desk-alike : {B : Type 0} (kind : B → Kind) (kept : B → Kept) (device : DeviceSeen) (parent clone : ParentOf B) (descriptors copied : Descriptors) → IsParentLike kind kept device parent clone
     → copied.held.value ≡ descriptors.held.value → copied.groups ≡ descriptors.groups → desk_with clone copied ≡ desk_with parent descriptors
-desk-alike {B} kind kept parent clone descriptors copied is held groups =
+desk-alike {B} kind kept device parent clone descriptors copied is held groups =
     let play = books-alike (λ (channel : PlayChannelOf B). channel.book) (play_channels parent) (play_channels clone) is.playing.count
     (λ slot other there. (is.playing.stand slot other there).book) in
     let recording = books-alike (λ (channel : RecordChannelOf B). channel.book) (record_channels parent) (record_channels clone) is.recording.count
@@ -61,12 +77,13 @@ desk-alike {B} kind kept parent clone descriptors copied is held groups =
     rw (play, recording, mapped, held, groups, is.mixer, is.handed, is.mixed) refl
 
 -- the parts of a clone stand for the story that the parent's stand for
-parts-alike : {B : Type 0} (kind : B → Kind) (kept : B → Kept) (device : DeviceSeen) (desk : Desk) (parent clone : ParentOf B) (story : Story) → IsParentClone kind kept parent clone
+parts-alike : {B : Type 0} (kind : B → Kind) (kept : B → Kept) (device : DeviceSeen) (desk : Desk) (parent clone : ParentOf B) (story : Story) → IsParentLike kind kept device parent clone → parent.handed ≡ desk.handed
     → PartsStand kept device desk (play_channels parent) (map_channels parent) parent.bus.chain parent.ring.bytes story
     → PartsStand kept device desk (play_channels clone) (map_channels clone) clone.bus.chain clone.ring.bytes story
-parts-alike {B} kind kept device desk parent clone story is stood =
+parts-alike {B} kind kept device desk parent clone story is handed stood =
     let playing = is.playing.count in
     let mapped = is.mapped.count in
+    let at : parent.handed ≡ story.desk.handed = handed ∙ ap (λ (d : Desk). d.handed) stood.desk_is in
     record {
       desk_is = stood.desk_is;
       slots = λ slot other there.
@@ -82,13 +99,13 @@ parts-alike {B} kind kept device desk parent clone story is stood =
                 (map_bytes_counted device story slot) alike was.stands;
             area = alike.area ∙ was.area;
           };
-      bus = is.made device _ _ stood.bus;
+      bus = subst (λ n. HasMade kept device clone.bus.chain (story_frames device story n) n) at (is.made (story_frames device story parent.handed) (subst (λ n. HasMade kept device parent.bus.chain (story_frames device story n) n) (sym at) stood.bus));
       ring_is = is.ring ∙ stood.ring_is;
       valid = stood.valid;
     }
 
 -- and so do its channels that record
-recorders-alike : {B : Type 0} (kind : B → Kind) (kept : B → Kept) (device : DeviceSeen) (pool : Pool) (parent clone : ParentOf B) (story : Story) → IsParentClone kind kept parent clone
+recorders-alike : {B : Type 0} (kind : B → Kind) (kept : B → Kept) (device : DeviceSeen) (pool : Pool) (parent clone : ParentOf B) (story : Story) → IsParentLike kind kept device parent clone
     → RecordersStand kept device pool (record_channels parent) story → RecordersStand kept device pool (record_channels clone) story
 recorders-alike {B} kind kept device pool parent clone story is stood =
     let recording = is.recording.count in
@@ -100,16 +117,16 @@ recorders-alike {B} kind kept device pool parent clone story is stood =
       valid = stood.valid;
     }
 
--- a clone is in order where the parent is
-pub clone-in-order : {B : Type 0} (kind : B → Kind) (kept : B → Kept) (parent clone : ParentOf B) (descriptors copied : Descriptors) → IsParentClone kind kept parent clone
+-- it is in order where that one is
+pub clone-in-order : {B : Type 0} (kind : B → Kind) (kept : B → Kept) (device : DeviceSeen) (parent clone : ParentOf B) (descriptors copied : Descriptors) → IsParentLike kind kept device parent clone
     → copied.held.value ≡ descriptors.held.value → copied.groups ≡ descriptors.groups → PartsInOrder parent descriptors → PartsInOrder clone copied
-clone-in-order kind kept parent clone descriptors copied is held groups order =
-    let desk = desk-alike kind kept parent clone descriptors copied is held groups in
+clone-in-order kind kept device parent clone descriptors copied is held groups order =
+    let desk = desk-alike kind kept device parent clone descriptors copied is held groups in
     record {
       own = record {
-        playing = λ slot other there. is.playing.own slot other there ∙ sym is.device;
-        recording = λ slot other there. is.recording.own slot other there ∙ sym is.device;
-        mapped = λ slot other there. is.mapped.own slot other there ∙ sym is.device;
+        playing = λ slot other there. is.playing.own slot other there ∙ sym is.device_same;
+        recording = λ slot other there. is.recording.own slot other there ∙ sym is.device_same;
+        mapped = λ slot other there. is.mapped.own slot other there ∙ sym is.device_same;
       };
       apart = subst HoldApart (sym desk) order.apart;
       pace = subst KeepsPace (sym desk) order.pace;
@@ -119,29 +136,40 @@ clone-in-order kind kept parent clone descriptors copied is held groups order =
 -- ---- an engine
 
 -- the bus of a clone has made what was given to the device
-bus-alike : {B : Type 0} (kind : B → Kind) (kept : B → Kept) (device : DeviceSeen) (parent clone : ParentOf B) → IsParentClone kind kept parent clone → HasBus kept device parent → HasBus kept device clone
+bus-alike : {B : Type 0} (kind : B → Kind) (kept : B → Kept) (device : DeviceSeen) (parent clone : ParentOf B) → IsParentLike kind kept device parent clone → HasBus kept device parent → HasBus kept device clone
 bus-alike kind kept device parent clone is bus = record {
   planned = record { limits = bus.planned.limits; plan_is = is.plan ∙ bus.planned.plan_is };
-  made = subst (HasMadeFar kept device clone.bus.chain) (sym is.handed) (is.far device parent.handed bus.made);
+  made = subst (HasMadeFar kept device clone.bus.chain) (sym is.handed) (is.far bus.made);
   level = rw (is.mixed, is.handed) bus.level;
 }
 
--- an engine of a clone of the parent of another one, with the same tables and descriptors, is that one's clone
-pub clone-stands : {B : Type 0} (kind : B → Kind) (kept : B → Kept) (engine clone : EngineOf B) → IsParentClone kind kept engine.parent clone.parent → clone.tables ≡ engine.tables
-    → clone.descriptors.held.value ≡ engine.descriptors.held.value → clone.descriptors.groups ≡ engine.descriptors.groups → AreReady kind kept engine → IsCloneOf kind kept engine clone
-clone-stands {B} kind kept engine clone is tables held groups ready =
-    let device : device_of clone ≡ device_of engine = rw (tables, is.device) refl in
-    let desk : desk_of clone ≡ desk_of engine = desk-alike kind kept engine.parent clone.parent engine.descriptors clone.descriptors is held groups in
+-- an engine whose parent is like that of another one, with the same tables and descriptors, goes on as that one does
+pub like-stands : {B : Type 0} (kind : B → Kind) (kept : B → Kept) (engine other : EngineOf B) → IsParentLike kind kept (device_of engine) engine.parent other.parent → other.tables ≡ engine.tables
+    → other.descriptors.held.value ≡ engine.descriptors.held.value → other.descriptors.groups ≡ engine.descriptors.groups → GoesOnAs kept engine other
+like-stands {B} kind kept engine other is tables held groups =
+    let device : device_of other ≡ device_of engine = rw (tables, is.device_same) refl in
+    let desk : desk_of other ≡ desk_of engine = desk-alike kind kept (device_of engine) engine.parent other.parent engine.descriptors other.descriptors is held groups in
     record {
       device = device;
       desk = desk;
       stands = λ pool events stood. record {
-        playing = subst (λ (d : DeviceSeen). PartsStand kept d (desk_of clone) (play_channels clone.parent) (map_channels clone.parent) clone.parent.bus.chain clone.parent.ring.bytes (story_of d pool events)) (sym device)
-            (subst (λ (at : Desk). PartsStand kept (device_of engine) at (play_channels clone.parent) (map_channels clone.parent) clone.parent.bus.chain clone.parent.ring.bytes (story_of (device_of engine) pool events)) (sym desk)
-            (parts-alike kind kept (device_of engine) (desk_of engine) engine.parent clone.parent (story_of (device_of engine) pool events) is stood.playing));
-        recording = subst (λ (d : DeviceSeen). RecordersStand kept d pool (record_channels clone.parent) (story_of d pool events)) (sym device)
-            (recorders-alike kind kept (device_of engine) pool engine.parent clone.parent (story_of (device_of engine) pool events) is stood.recording);
+        playing = subst (λ (d : DeviceSeen). PartsStand kept d (desk_of other) (play_channels other.parent) (map_channels other.parent) other.parent.bus.chain other.parent.ring.bytes (story_of d pool events)) (sym device)
+            (subst (λ (at : Desk). PartsStand kept (device_of engine) at (play_channels other.parent) (map_channels other.parent) other.parent.bus.chain other.parent.ring.bytes (story_of (device_of engine) pool events)) (sym desk)
+            (parts-alike kind kept (device_of engine) (desk_of engine) engine.parent other.parent (story_of (device_of engine) pool events) is refl stood.playing));
+        recording = subst (λ (d : DeviceSeen). RecordersStand kept d pool (record_channels other.parent) (story_of d pool events)) (sym device)
+            (recorders-alike kind kept (device_of engine) pool engine.parent other.parent (story_of (device_of engine) pool events) is stood.recording);
       };
+    }
+
+-- and is its clone where that one is ready
+pub clone-stands : {B : Type 0} (kind : B → Kind) (kept : B → Kept) (engine clone : EngineOf B) → IsParentLike kind kept (device_of engine) engine.parent clone.parent → clone.tables ≡ engine.tables
+    → clone.descriptors.held.value ≡ engine.descriptors.held.value → clone.descriptors.groups ≡ engine.descriptors.groups → AreReady kind kept engine → IsCloneOf kind kept engine clone
+clone-stands {B} kind kept engine clone is tables held groups ready =
+    let goes = like-stands kind kept engine clone is tables held groups in
+    let device = goes.device in
+    let desk = goes.desk in
+    record {
+      goes = goes;
       ready = ready-all kind kept clone
           (λ slot other there. let count = is.playing.count in let before : slot < length (play_channels engine.parent) = omega arith in
           let was = ready.playing slot other before in let alike = is.playing.stand slot other before in

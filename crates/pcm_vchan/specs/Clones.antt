@@ -44,3 +44,18 @@ pub record IsParentClone {B : Type 0} (kind : B → Kind) (kept : B → Kept) (p
   pub ring : clone.ring.bytes ≡ parent.ring.bytes
   pub handed : clone.handed ≡ parent.handed
   pub mixed : clone.mixed ≡ parent.mixed
+
+-- A parent that is like another one where that is now: its channels stand for whatever the other's do, and its bus has made what the other's has of the frames
+-- that were mixed for those that were handed over. All else is the same.
+pub record IsParentLike {B : Type 0} (kind : B → Kind) (kept : B → Kept) (device : DeviceSeen) (parent like : ParentOf B) : Type 0 where
+  pub device_same : like.device ≡ parent.device
+  pub playing : SlotsStandAs (λ channel. channel.path) (PlayStandsAs kept) kind parent.device (play_channels parent) (play_channels like)
+  pub recording : SlotsStandAs (λ channel. channel.path) (RecordStandsAs kept) kind parent.device (record_channels parent) (record_channels like)
+  pub mapped : SlotsStandAs (λ channel. channel.path) (MapStandsAs kept) kind parent.device (map_channels parent) (map_channels like)
+  pub mixer : like.mixer ≡ parent.mixer
+  pub plan : plan_in like.bus.chain ≡ plan_in parent.bus.chain
+  pub far : HasMadeFar kept device parent.bus.chain parent.handed → HasMadeFar kept device like.bus.chain parent.handed
+  pub made : (x : List Frame) → HasMade kept device parent.bus.chain x parent.handed → HasMade kept device like.bus.chain x parent.handed
+  pub ring : like.ring.bytes ≡ parent.ring.bytes
+  pub handed : like.handed ≡ parent.handed
+  pub mixed : like.mixed ≡ parent.mixed

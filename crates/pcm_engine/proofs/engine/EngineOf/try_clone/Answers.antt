@@ -3,8 +3,9 @@ use Rattle.pcm_engine.specs.Types.{Device, Filters}
 use Rattle.pcm_format.specs.Layouts.{channels_of}
 use Rattle.pcm_sequence.specs.Fixed.{fixed_len}
 use Rattle.pcm_vchan.specs.Parents.{AreServed}
-use Rattle.pcm_engine.proofs.Cloning.{clone-in-order, clone-stands}
+use Rattle.pcm_engine.proofs.Cloning.{clone-in-order, clone-like, clone-stands}
 use Rattle.pcm_engine.proofs.InOrder.{served}
+use Rattle.pcm_engine.specs.Engines.{device_of}
 use Rattle.pcm_engine.proofs.engine.EngineOf.try_clone.Goals as goal
 
 pub try_clone-requires-clause-served : goal.try_clone-requires-clause-served
@@ -15,8 +16,8 @@ try_clone-requires-clause-served g c =
 pub invariant_of-result-clause-order : goal.invariant_of-result-clause-order
 invariant_of-result-clause-order g c =
     let engine = c.args.self.now in
-    clone-in-order g.B.Feeder.kind g.B.Feeder.kept engine.parent c.in_ok-parent.parent engine.descriptors c.in_ok-descriptors.descriptors
-    c.in_ok-parent.ensures.clone c.in_ok-descriptors.ensures.held c.in_ok-descriptors.ensures.groups engine.order
+    clone-in-order g.B.Feeder.kind g.B.Feeder.kept (device_of engine) engine.parent c.in_ok-parent.parent engine.descriptors c.in_ok-descriptors.descriptors
+    (clone-like g.B.Feeder.kind g.B.Feeder.kept (device_of engine) engine.parent c.in_ok-parent.parent c.in_ok-parent.ensures.clone) c.in_ok-descriptors.ensures.held c.in_ok-descriptors.ensures.groups engine.order
 
 pub invariant_of-result-clause-captured_size : goal.invariant_of-result-clause-captured_size
 invariant_of-result-clause-captured_size g c =
@@ -27,7 +28,9 @@ invariant_of-result-clause-captured_size g c =
 
 pub returns-clause-clone : goal.returns-clause-clone
 returns-clause-clone g c =
-    clone-stands g.B.Feeder.kind g.B.Feeder.kept c.args.self.now _ c.in_ok-parent.ensures.clone c.in_ok-tables.ensures
+    let engine = c.args.self.now in
+    clone-stands g.B.Feeder.kind g.B.Feeder.kept engine _
+    (clone-like g.B.Feeder.kind g.B.Feeder.kept (device_of engine) engine.parent c.in_ok-parent.parent c.in_ok-parent.ensures.clone) c.in_ok-tables.ensures
     c.in_ok-descriptors.ensures.held c.in_ok-descriptors.ensures.groups c.requires.ready
 
 pub returns-clause-racks : goal.returns-clause-racks
