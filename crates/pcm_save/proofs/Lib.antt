@@ -1,0 +1,7 @@
+mod Walks
+mod Loading
+mod Bus
+pub mod Alike
+pub mod AlikeOutputs
+mod Joining
+pub mod AlikeParents

@@ -1,0 +1,5 @@
+pub mod Pieces
+pub mod Rows
+pub mod Spelled
+pub mod Volumes
+pub mod Known

@@ -1,0 +1,9 @@
+pub mod Numbers
+pub mod Samples
+pub mod OpeningRows
+pub mod PlayRows
+pub mod RecordRows
+pub mod MapRows
+pub mod MixerRows
+pub mod GroupRows
+pub mod HeldRows
