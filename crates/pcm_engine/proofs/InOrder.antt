@@ -112,7 +112,7 @@ abbrev IsMapSafe : DeviceSeen → MapBook → Type 0
 IsMapSafe device book = MapIsSafe (map_rate_at device book) book
 
 -- what holds of the book of each channel, and of one that nobody has opened, holds of each slot
-each_book : {X Book : Type 0} (book : X → Book) (holds : Book → Type 0) (channels : List X) (slot : ℕ) (none : Book) → All (λ (channel : X). holds (book channel)) channels → holds none → holds (get_or (map book channels) slot none)
+pub each_book : {X Book : Type 0} (book : X → Book) (holds : Book → Type 0) (channels : List X) (slot : ℕ) (none : Book) → All (λ (channel : X). holds (book channel)) channels → holds none → holds (get_or (map book channels) slot none)
 each_book book holds channels slot none each unopened = at-slot holds (map book channels) slot none unopened (All-map holds book channels each)
 
 -- and its rate

@@ -15,3 +15,9 @@ pub mod Called
 pub mod Starting
 pub mod Stepping
 pub mod Cloning
+pub mod Tested
+pub mod Judging
+pub mod KnownByState
+pub mod Loading
+pub mod Saving
+pub mod Loaded

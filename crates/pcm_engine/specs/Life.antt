@@ -3,10 +3,11 @@ use Rattle.std.specs.Prelude.{ℕ, ◌+◌, ◌*◌, ◌≤◌, All}
 use Rattle.pcm_oss.specs.declared.fragments.TheConstants.{RING_BYTES}
 use Rattle.pcm_engine.specs.Types.{MapBook, PlayBook, RecordBook}
 use Rattle.pcm_desk.specs.Desk.{Desk}
+use Rattle.pcm_engine.specs.declared.limits.TheConstants.{BYTES_FOR_FRAME}
 
 -- the most bytes that play for one frame of the mix: 48 frames of a client, of 32 bytes each
 abbrev pub bytes_for_frame : ℕ
-bytes_for_frame = 1536
+bytes_for_frame = BYTES_FOR_FRAME
 
 -- The runs of a slot that were played whole, and the one that plays, gave no frame that wasn't mixed, and had no more bytes than that.
 pub record PlayKeepsPace (mixed : ℕ) (book : PlayBook) : Type 0 where

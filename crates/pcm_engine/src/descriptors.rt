@@ -1,16 +1,30 @@
 //! Which descriptor holds which channel, which channels start together, and what a descriptor is refused for.
 
-ghost use Rattle.std.specs.Prelude.{◌≡◌, ◌<◌, IfOk, None, Some, replicate, slice_index_or};
+ghost use Rattle.std.specs.Prelude.{◌≡◌, ◌<◌, All, IfOk, None, Some, length, replicate, slice_index_or};
 ghost use Rattle.pcm_group.specs.Groups.{no_groups};
+ghost use Rattle.pcm_save.specs.Parts.{IsPart};
+ghost use Rattle.pcm_state.specs.HeldRows.{held_row, FitsHeld};
 ghost use Rattle.pcm_desk.specs.Channels.{member_refusal};
 ghost use Rattle.pcm_desk.specs.Desk.{left_by};
 ghost use Rattle.pcm_engine.specs.Descriptors.{holding, shut, slot_of};
 ghost use Rattle.pcm_engine.specs.Desks.{with_held};
+ghost use Rattle.pcm_engine.specs.Judged.{StandOnce};
+ghost use Rattle.pcm_engine.specs.Saved.{descriptors_state, AreWhole};
 
+use crate::LoadFault;
+use crate::load_fault::ordered;
+use crate::places::are_apart;
 use pcm_desk::{DESCRIPTORS, Held, has_other_bits};
 use pcm_group::Groups;
 use pcm_oss::{Errno, Request, Way};
+use pcm_save::load_row;
+use pcm_state::{GROUP_NUMBERS, groups_from_row, groups_row, load_held, put_held, put_numbers};
 use std::alloc::{AllocError, Global};
+
+/// The bytes of the groups, and of all that descriptors keep.
+const GROUP_BYTES: usize = 8 * GROUP_NUMBERS;
+
+pub const DESCRIPTOR_BYTES: usize = GROUP_BYTES + 8 * DESCRIPTORS;
 
 /// What each descriptor holds, if it is open, and which of these channels start together.
 #[derive(Drop)]
@@ -22,6 +36,7 @@ pub struct Descriptors {
 
 impl Descriptors {
     ghost use Rattle.pcm_desk.specs.declared.limits.TheConstants.{DESCRIPTORS};
+    ghost use Rattle.pcm_engine.specs.declared.descriptors.TheConstants.{DESCRIPTOR_BYTES};
 
     /// All are shut, and there is no group.
     // Not inlined: the list stands on the stack only while it is made.
@@ -47,6 +62,60 @@ impl Descriptors {
             held: Box::new(alloc, *self.held)?,
             groups: self.groups,
         })
+    }
+
+    /// How many bytes spell them.
+    pub fn size(&self) -> usize
+        ensures size { result ≡ length (descriptors_state self.now) }
+        ensures is { result ≡ DESCRIPTOR_BYTES }
+        ensures whole { AreWhole self.now }
+    {
+        let row = groups_row(&self.groups);
+        8 * (row.len() + self.all_held().len())
+    }
+
+    /// Spells them.
+    // Not inlined: the rows stand on the stack only meanwhile.
+    #[inline(never)]
+    pub fn save(&self, out: &mut [u8])
+        requires slots { All FitsHeld self.now.held.value }
+        requires size { length out.old ≡ DESCRIPTOR_BYTES }
+        ensures state { out.new ≡ descriptors_state self.now }
+        ensures whole { AreWhole self.now }
+    {
+        let (front, rest) = out.split_at_mut(GROUP_BYTES);
+        put_numbers(&groups_row(&self.groups), front);
+        let mut numbers = [0; DESCRIPTORS];
+        put_held(&*self.held, &mut numbers);
+        put_numbers(&numbers, rest);
+    }
+
+    /// Those whose bytes are the front of these, of which no two hold one channel.
+    // Not inlined: the rows stand on the stack only meanwhile.
+    #[inline(never)]
+    pub fn load(alloc: Global, bytes: &[u8]) -> Result<Descriptors, LoadFault>
+        ensures state { IfOk result (λ loaded. IsPart bytes.now 0 DESCRIPTOR_BYTES (descriptors_state loaded)) }
+        ensures whole { IfOk result AreWhole }
+        ensures apart { IfOk result (λ loaded. StandOnce (held_row loaded.held.value)) }
+    {
+        let mut row = [0; GROUP_NUMBERS];
+        load_row(bytes, &mut row)?;
+        let groups = groups_from_row(&row).ok_or(LoadFault::Unspelled)?;
+        let mut numbers = [0; DESCRIPTORS];
+        load_row(&bytes[GROUP_BYTES..], &mut numbers)?;
+        ordered(are_apart(&numbers))?;
+        let mut descriptors = Descriptors::all_shut(alloc)?;
+        load_held(&numbers, &mut *descriptors.held);
+        descriptors.regroup(groups);
+        Ok(descriptors)
+    }
+
+    /// What each holds.
+    pub fn all_held(&self) -> &[Option<Held>]
+        ensures is { result.now ≡ self.now.held.value }
+        ensures count { length result.now ≡ DESCRIPTORS }
+    {
+        &*self.held
     }
 
     /// That a descriptor is shut, and may be opened.

@@ -31,10 +31,10 @@ use std::alloc::{AllocError, Global};
 #[derive(Drop)]
 pub struct EngineOf<B> {
     pub(crate) parent: ParentOf<B>,
-    tables: Tables,
+    pub(crate) tables: Tables,
     pub(crate) descriptors: Descriptors,
-    captured: Fixed<i32>,
-    answered: Fixed<u8>,
+    pub(crate) captured: Fixed<i32>,
+    pub(crate) answered: Fixed<u8>,
     ghost order: { PartsInOrder parent descriptors } by { Prim.hlevel hold_props },
     ghost captured_size: { fixed_len captured ≡ parent.device.ring_frames * channels_of parent.device.settings.layout },
     ghost answered_size: { fixed_len answered ≡ REPLY_BYTES },
@@ -48,6 +48,7 @@ impl<B: Feeder> EngineOf<B> {
     ghost use Rattle.pcm_engine.specs.Brought.{padded};
     ghost use Rattle.pcm_feeder.specs.Racks.{AreRacks, list_of};
     ghost use Rattle.pcm_engine.specs.Clones.{IsCloneOf};
+    ghost use Rattle.pcm_engine.specs.Loads.{IsOfParts};
     ghost use Rattle.pcm_engine.specs.Engines.{AreReady, CanBeMade, CanStep, CanStepWith, HasStepped, Stands, StepsAs, StepsAsCalled, device_of, samples_at_hand, samples_most};
 
     /// The engine of a device with its filters, before its first event. Its channels pick their stages from the racks, one rack a slot; after
@@ -92,6 +93,29 @@ impl<B: Feeder> EngineOf<B> {
         let parent = self.parent.try_clone(alloc, &tables, racks)?;
         let descriptors = self.descriptors.try_clone(alloc)?;
         let captured = vec![in alloc; 0i32; self.captured.iter().len()]?;
+        let answered = vec![in alloc; 0u8; REPLY_BYTES]?;
+        Ok(EngineOf {
+            parent,
+            tables,
+            descriptors,
+            captured: Fixed::new(captured),
+            answered: Fixed::new(answered),
+        })
+    }
+
+    // The engine of these parts, with memory of its own for what is captured and answered.
+    pub(crate) fn of_parts(
+        alloc: Global,
+        parent: ParentOf<B>,
+        tables: Tables,
+        descriptors: Descriptors,
+    ) -> Result<EngineOf<B>, AllocError>
+        requires { PartsInOrder parent descriptors }
+        ensures { IfOk result (IsOfParts parent tables descriptors) }
+    {
+        let device = &parent.device;
+        let samples = device.ring_frames as usize * device.settings.layout.channels();
+        let captured = vec![in alloc; 0i32; samples]?;
         let answered = vec![in alloc; 0u8; REPLY_BYTES]?;
         Ok(EngineOf {
             parent,
