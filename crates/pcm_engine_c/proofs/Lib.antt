@@ -3,3 +3,4 @@ pub mod Readiness
 pub mod Slots
 pub mod Asking
 pub mod Cloning
+pub mod Loading

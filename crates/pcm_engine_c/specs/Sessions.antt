@@ -15,6 +15,8 @@ use Rattle.pcm_foreign.specs.declared.call_fault.CallFault.TheVariants.{Engine}
 use Rattle.pcm_foreign.specs.Answers.{call_fault_number, fault_number}
 use Rattle.pcm_foreign.specs.Devices.{device_from}
 use Rattle.pcm_foreign.specs.Tables.{tables_from}
+use Rattle.pcm_engine.specs.declared.load_fault.LoadFault.{LoadFault}
+use Rattle.pcm_session.specs.States.{load_fault_number}
 use Rattle.pcm_engine_c.specs.declared.session.Session.{Session}
 use Rattle.pcm_engine_c.specs.Calls.{OnHeld}
 
@@ -49,3 +51,10 @@ pub record IsCloned (is_clone_of : Session → Session → Type 0) (engine old n
   pub made : result ≡ pos 0 → OnHeld engine new is_clone_of
   pub unmade : result ≢ pos 0 → new ≡ old
   pub memory : IsSome engine → old ≡ None → result ≢ pos 0 → result ≡ fault_number Memory
+
+-- The result of loading a state. Without an engine nothing is loaded, and the number says so. Else 0 says that the engine goes on as the bytes
+-- tell; and any other number is that of a fault, and the engine is as it was.
+pub record IsLoaded (goes_on : Session → Session → Type 0) (old new : Option Session) (result : ℤ) : Type 0 where
+  pub none : old ≡ None → (new ≡ None) × (result ≡ call_fault_number Engine)
+  pub loaded : IsSome old → result ≡ pos 0 → OnHeld old new goes_on
+  pub refused : IsSome old → result ≢ pos 0 → (new ≡ old) × ((fault : LoadFault) × (result ≡ load_fault_number fault))

@@ -1,5 +1,11 @@
 -- What a question of C is answered: 0 and the answer, or a number below 0 and nothing.
-use Rattle.std.specs.Prelude.{◌≡◌, ℕ, ℤ, pos, min, Result, Ok, Err}
+use Rattle.std.specs.Prelude.{◌≡◌, ℕ, ℤ, pos, min, List, Result, Ok, Err}
+use Rattle.pcm_feeder.specs.declared.kind.Kind.{Kind}
+use Rattle.pcm_feeder.specs.Kept.{Kept}
+use Rattle.pcm_foreign.specs.Answers.{call_fault_number}
+use Rattle.pcm_foreign.specs.declared.call_fault.CallFault.{CallFault}
+use Rattle.pcm_engine.specs.declared.engine.EngineOf.{EngineOf}
+use Rattle.pcm_session.specs.States.{IsSaved}
 use Rattle.pcm_desk.specs.Device.{DeviceSeen}
 use Rattle.pcm_desk.specs.Desk.{Desk}
 use Rattle.pcm_session.specs.Questions.{WaitTold}
@@ -24,3 +30,14 @@ pub record IsWait (device : DeviceSeen) (desk : Desk) (fd bytes : ℕ) (result :
   pub wait : Result ℕ ℤ
   pub is : WaitTold device desk fd bytes wait
   pub number : result ≡ wait_number wait
+
+-- how many bytes were spelled, or a number below 0
+abbrev pub saved_number : Result ℕ CallFault → ℤ
+saved_number (Ok count) = pos (min count 9223372036854775807)
+saved_number (Err fault) = call_fault_number fault
+
+-- the state of an engine stands at the front of a room, or this is too small
+pub record IsSaveTold {B : Type 0} (kind : B → Kind) (kept : B → Kept) (engine : EngineOf B) (old new : List ℕ) (result : ℤ) : Type 0 where
+  pub told : Result ℕ CallFault
+  pub is : IsSaved kind kept engine old new told
+  pub number : result ≡ saved_number told

@@ -2,7 +2,7 @@
 //! Numbers, lengths and references come from C; that these are what C says they are is trusted.
 #![tactic(auto)]
 
-ghost use Rattle.std.specs.Prelude.{◌≡◌, IfSome, IsSome, None, [], length, drop, true, pos, if◌then◌else◌};
+ghost use Rattle.std.specs.Prelude.{◌≡◌, ◌<◌, ◌^◌, IfSome, IsSome, None, [], length, drop, true, pos, if◌then◌else◌};
 ghost use Rattle.pcm_engine.specs.Clones.{IsCloneOf};
 ghost use Rattle.pcm_engine.specs.Engines.{desk_of, device_of};
 ghost use Rattle.pcm_engine.specs.Views.{is_idle};
@@ -14,7 +14,10 @@ ghost use Rattle.pcm_foreign.specs.declared.fault.NumbersFault.TheVariants.{Memo
 ghost use Rattle.pcm_session.specs.Calls.{Discards, Interrupts, MakesCall, beside, call_number, count_number, done_number, handed_count, handed_number, open_number, read_into};
 ghost use Rattle.pcm_session.specs.Questions.{peek_told, ready_told, told_settings, slot_told};
 ghost use Rattle.pcm_session.specs.Taken.{frames_left, unheard_room};
-ghost use Rattle.pcm_engine_c.specs.Told.{IsTold, IsWait, ready_number, wait_number};
+ghost use Rattle.pcm_engine.specs.Saved.{engine_state};
+ghost use Rattle.pcm_session.specs.States.{GoesOnFrom};
+ghost use Rattle.pcm_engine_c.specs.Sessions.{IsLoaded};
+ghost use Rattle.pcm_engine_c.specs.Told.{IsSaveTold, IsTold, IsWait, ready_number, saved_number, wait_number};
 ghost use Rattle.pcm_session.specs.Events.{event_for_close, event_for_ioctl, event_for_join, event_for_mixer, event_for_open, event_for_poke, event_for_read, event_for_start, event_for_write};
 
 mod handle;
@@ -24,11 +27,11 @@ use feed_stages::Stage;
 use handle::Handle;
 use pcm_feeder::Feeder;
 use pcm_foreign::{
-    AnswerNumbers, DeviceNumbers, FilterNumbers, NOT_AN_ENGINE, NumbersFault, SectionNumbers,
-    fault_number,
+    AnswerNumbers, CallFault, DeviceNumbers, FilterNumbers, NOT_AN_ENGINE, NumbersFault,
+    SectionNumbers, call_fault_number, fault_number,
 };
-use pcm_session::{SettingsNumbers, SlotNumbers};
-use session::{session_clone, session_from};
+use pcm_session::{SettingsNumbers, SlotNumbers, load_fault_number};
+use session::{session_clone, session_from, session_load};
 use std::alloc::Global;
 
 /// Makes the engine of a device, with filters and sections. Where there is one, none is made.
@@ -80,6 +83,60 @@ pub extern "C" fn dsp_raw_clone(alloc: Global, engine: &mut Handle, clone: &mut 
     };
     clone.put(made);
     0
+}
+
+/// How many bytes spell all that an engine keeps.
+#[unsafe(no_mangle)]
+pub extern "C" fn dsp_raw_state_size(alloc: Global, engine: &mut Handle) -> i64
+    ensures same { engine.new.slot.session ≡ engine.old.slot.session }
+    ensures size { IfSome engine.old.slot.session (λ session. result ≡ pos (length (engine_state ⟦<Stage as Feeder>⟧.kept session.of.engine))) }
+    ensures none { engine.old.slot.session ≡ None → result ≡ call_fault_number Engine }
+{
+    let Some(session) = engine.take(alloc) else {
+        return i64::from(NOT_AN_ENGINE);
+    };
+    let size = session.of.state_size();
+    engine.put(session);
+    size_number(size)
+}
+
+/// Spells all that an engine keeps at the front of a room, and answers how many bytes these are.
+#[unsafe(no_mangle)]
+pub extern "C" fn dsp_raw_save(alloc: Global, engine: &mut Handle, out: &mut [u8]) -> i64
+    ensures same { engine.new.slot.session ≡ engine.old.slot.session }
+    ensures saved { IfSome engine.old.slot.session (λ session. IsSaveTold
+        ⟦<Stage as Feeder>⟧.kind ⟦<Stage as Feeder>⟧.kept session.of.engine out.old out.new result) }
+    ensures none { engine.old.slot.session ≡ None
+        → (result ≡ call_fault_number Engine) × (out.new ≡ out.old) }
+{
+    let Some(session) = engine.take(alloc) else {
+        return i64::from(NOT_AN_ENGINE);
+    };
+    let saved = session.of.save(out);
+    engine.put(session);
+    saved_number(saved)
+}
+
+/// An engine goes on as the bytes of a state tell, which is of its device. Where they are refused, nothing changes.
+#[unsafe(no_mangle)]
+pub extern "C" fn dsp_raw_load(alloc: Global, engine: &mut Handle, bytes: &[u8]) -> i32
+    ensures { IsLoaded (λ session loaded. GoesOnFrom
+        ⟦<Stage as Feeder>⟧.kind ⟦<Stage as Feeder>⟧.kept bytes.now session.of.engine loaded.of.engine)
+        engine.old.slot.session engine.new.slot.session result }
+{
+    let Some(session) = engine.take(alloc) else {
+        return NOT_AN_ENGINE;
+    };
+    match session_load(alloc, &session, bytes) {
+        Ok(loaded) => {
+            engine.put(loaded);
+            0
+        }
+        Err(fault) => {
+            engine.put(session);
+            load_fault_number(fault)
+        }
+    }
 }
 
 /// Frees an engine, if there is one.
@@ -497,6 +554,24 @@ fn wait_number(told: Result<u64, i32>) -> i64
     match told {
         Ok(frames) => frames.min(i64::MAX as u64) as i64,
         Err(number) => i64::from(number),
+    }
+}
+
+// A number of bytes.
+fn size_number(size: usize) -> i64
+    requires { size < 2 ^ 42 }
+    ensures { result ≡ pos size }
+{
+    size as i64
+}
+
+// How many bytes were spelled, or a number below 0.
+fn saved_number(told: Result<usize, CallFault>) -> i64
+    ensures { result ≡ saved_number told }
+{
+    match told {
+        Ok(count) => count.min(i64::MAX as usize) as i64,
+        Err(fault) => i64::from(call_fault_number(fault)),
     }
 }
 

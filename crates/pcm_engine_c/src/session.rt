@@ -4,9 +4,11 @@ ghost use Rattle.std.specs.Prelude.{◌≡◌, true, false, IfOk, IfErr};
 ghost use Rattle.pcm_engine.specs.Clones.{IsCloneOf};
 ghost use Rattle.pcm_engine.specs.Engines.{AreReady};
 ghost use Rattle.pcm_engine_c.specs.Sessions.{IsNew, is_possible};
+ghost use Rattle.pcm_session.specs.States.{GoesOnFrom};
 ghost use Rattle.pcm_foreign.specs.declared.fault.NumbersFault.TheVariants.{Argument, Memory};
 
 use feed_stages::{Stage, stage_racks};
+use pcm_engine::LoadFault;
 use pcm_feeder::Feeder;
 use pcm_foreign::{
     DeviceNumbers, FilterNumbers, NumbersFault, SectionNumbers, device_from, tables_from,
@@ -64,6 +66,29 @@ pub fn session_clone(alloc: Global, session: &Session) -> Result<Box<Session>, A
         return Err(AllocError);
     };
     let session = session.of.try_clone(alloc, racks)?;
+    let session = boxed(alloc, session)?;
+    Ok(session)
+}
+
+/// The session whose engine is of the same device as that of another session, and goes on as the bytes tell. All memory is taken here.
+///
+/// # Errors
+///
+/// As `LoadFault` says.
+pub fn session_load(
+    alloc: Global,
+    session: &Session,
+    bytes: &[u8],
+) -> Result<Box<Session>, LoadFault>
+    requires { AreReady
+        ⟦<Stage as Feeder>⟧.kind ⟦<Stage as Feeder>⟧.kept session.now.of.engine }
+    ensures { IfOk result (λ made. GoesOnFrom
+        ⟦<Stage as Feeder>⟧.kind ⟦<Stage as Feeder>⟧.kept bytes.now session.now.of.engine made.value.of.engine) }
+{
+    let Ok(racks) = stage_racks(alloc) else {
+        return Err(LoadFault::Memory);
+    };
+    let session = session.of.try_load(alloc, racks, bytes)?;
     let session = boxed(alloc, session)?;
     Ok(session)
 }

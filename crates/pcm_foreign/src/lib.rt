@@ -18,7 +18,8 @@ pub use device::{DeviceNumbers, device_from, is_rate, settings_from, way_from};
 pub use fault::{NumbersFault, fault_number};
 pub use filters::FilterNumbers;
 pub use refusals::{
-    AGAIN, BAD_DESCRIPTOR, BUSY, EXISTS, INVALID, NO_MEMORY, NOT_AN_ENGINE, SHORT_ROOM, WORN_OUT,
+    AGAIN, BAD_DESCRIPTOR, BUSY, EXISTS, INVALID, LONG_STATE, NO_MEMORY, NOT_A_STATE,
+    NOT_AN_ENGINE, OTHER_DEVICE, OUT_OF_ORDER, SHORT_ROOM, SHORT_STATE, UNSPELLED, WORN_OUT,
     WRONG_ARGUMENT,
 };
 pub use requests::{mix_request_from, request_from};

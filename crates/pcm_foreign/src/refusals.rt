@@ -29,3 +29,21 @@ pub const SHORT_ROOM: i32 = -10;
 
 /// The engine has taken all its steps.
 pub const WORN_OUT: i32 = -11;
+
+/// The bytes don't begin as a state of this version.
+pub const NOT_A_STATE: i32 = -12;
+
+/// The state is of another device, or of one with other filters or sections.
+pub const OTHER_DEVICE: i32 = -13;
+
+/// The state ends too early.
+pub const SHORT_STATE: i32 = -14;
+
+/// Bytes follow after the end of the state.
+pub const LONG_STATE: i32 = -15;
+
+/// A number of the state stands for nothing.
+pub const UNSPELLED: i32 = -16;
+
+/// Counts of the state contradict each other.
+pub const OUT_OF_ORDER: i32 = -17;

@@ -5,3 +5,4 @@ pub mod Runs
 pub mod Events
 pub mod Calls
 pub mod Questions
+pub mod States

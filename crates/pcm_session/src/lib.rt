@@ -8,6 +8,7 @@ mod judge;
 mod laws;
 mod questions;
 mod session;
+mod state;
 
 pub use calls::{
     ask_mixer, close, discard, interrupt, ioctl, join, open, poke, read, start, write,
@@ -15,3 +16,4 @@ pub use calls::{
 pub use laws::{life_of_a_session, sessions_run_scripts};
 pub use questions::{SettingsNumbers, SlotNumbers};
 pub use session::SessionOf;
+pub use state::load_fault_number;

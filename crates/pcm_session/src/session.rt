@@ -68,7 +68,7 @@ impl<B: Feeder> SessionOf<B> {
     }
 
     // The session of an engine, before its first call.
-    fn of(alloc: Global, engine: EngineOf<B>) -> Result<SessionOf<B>, AllocError>
+    pub(crate) fn of(alloc: Global, engine: EngineOf<B>) -> Result<SessionOf<B>, AllocError>
         requires { IsInLimits (device_of engine) }
         ensures { IfOk result (λ session. (session.engine ≡ engine) × (session.reply ≡ first_reply)) }
     {
