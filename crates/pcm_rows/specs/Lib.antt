@@ -26,3 +26,4 @@ pub mod ConversionRows
 pub mod Verdicts
 pub mod GroupRows
 pub mod MappedRows
+pub mod StateRows
