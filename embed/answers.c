@@ -1,6 +1,7 @@
 /*
- * What the library answers to calls that it refuses, and to those that a_mute.c doesn't make: recordings, mapped channels, groups, filters;
- * and what it says of answers and requests. Each line has a call and the number that docs/SCRIPTS.md gives its like. scripts/embed runs it.
+ * What the library answers to calls that it refuses, and to those that a_mute.c doesn't make: recordings, mapped channels, groups, filters,
+ * clones, states; and what it says of answers and requests. Each line has a call and the number that docs/SCRIPTS.md gives its like.
+ * scripts/embed runs it.
  */
 #include <errno.h>
 #include <stdio.h>
@@ -34,7 +35,7 @@ static const struct dsp_device device = {
 static void without_an_engine(void) {
     struct dsp_engine none = DSP_NO_ENGINE, other = DSP_NO_ENGINE;
     struct dsp_answer answer;
-    uint8_t bytes[64];
+    uint8_t bytes[64] = {0};
 
     IS(dsp_engine_open(&none, 0, DSP_PLAY, DSP_U8, 1, 8000), DSP_NOT_AN_ENGINE);
     IS(dsp_engine_write(&none, 0, bytes, 1), DSP_NOT_AN_ENGINE);
@@ -50,13 +51,17 @@ static void without_an_engine(void) {
     IS(dsp_engine_clone(&none, &other), DSP_NOT_AN_ENGINE);
     IS(dsp_engine_clone(&none, &none), DSP_NOT_AN_ENGINE);
     IS(other.there, false);
+    IS(dsp_engine_state_size(&none), DSP_NOT_AN_ENGINE);
+    IS(dsp_engine_save(&none, bytes, sizeof bytes), DSP_NOT_AN_ENGINE);
+    IS(dsp_engine_load(&none, bytes, sizeof bytes), DSP_NOT_AN_ENGINE);
+    IS(none.there, false);
     dsp_engine_free(&none);
 }
 
 static void without_a_handle(void) {
     struct dsp_engine none = DSP_NO_ENGINE;
     struct dsp_answer answer;
-    uint8_t bytes[64];
+    uint8_t bytes[64] = {0};
 
     IS(dsp_engine_new(NULL, &device, NULL, 0, NULL, 0, NULL, 0), DSP_NULL_POINTER);
     IS(dsp_engine_create(NULL, &device, NULL, 0, NULL, 0, NULL, 0), DSP_NULL_POINTER);
@@ -73,6 +78,9 @@ static void without_a_handle(void) {
     IS(dsp_engine_frames_left(NULL), 0);
     IS(dsp_engine_clone(NULL, &none), DSP_NULL_POINTER);
     IS(dsp_engine_clone(&none, NULL), DSP_NULL_POINTER);
+    IS(dsp_engine_state_size(NULL), DSP_NULL_POINTER);
+    IS(dsp_engine_save(NULL, bytes, sizeof bytes), DSP_NULL_POINTER);
+    IS(dsp_engine_load(NULL, bytes, sizeof bytes), DSP_NULL_POINTER);
     dsp_engine_free(NULL);
     dsp_engine_destroy(NULL);
 }
@@ -251,16 +259,63 @@ static void clones(struct dsp_engine *engine) {
     dsp_engine_free(&other);
 }
 
+/* A state is spelled where there is room for it, and nowhere else. */
+static void saves(struct dsp_engine *engine) {
+    static uint8_t state[1 << 16];
+    int64_t size = dsp_engine_state_size(engine);
+
+    memset(state, 7, sizeof state);
+    IS(0 < size && size < (int64_t)sizeof state, true);
+    IS(dsp_engine_save(engine, NULL, 1), DSP_NULL_POINTER);
+    IS(dsp_engine_save(engine, NULL, 0), DSP_SHORT_ROOM);
+    IS(dsp_engine_save(engine, state, 0), DSP_SHORT_ROOM);
+    IS(dsp_engine_save(engine, state, (size_t)size - 1), DSP_SHORT_ROOM);
+    IS(state[0] == 7 && memcmp(state, state + 1, sizeof state - 1) == 0, true);
+    IS(dsp_engine_save(engine, state, sizeof state), size);
+    IS(memcmp(state + size, state + size + 1, sizeof state - (size_t)size - 1) == 0 && state[size] == 7, true);
+    IS(dsp_engine_state_size(engine), size);
+}
+
+/* The state of an engine with one descriptor, which is open. */
+static void loads(struct dsp_engine *engine) {
+    static uint8_t state[1 << 16];
+    uint8_t bytes[4] = {0};
+    struct dsp_engine slower = DSP_NO_ENGINE;
+    struct dsp_device other = device;
+    size_t size;
+
+    IS(dsp_engine_open(engine, 0, DSP_PLAY, DSP_S16_LE, 2, 48000), 0);
+    size = (size_t)dsp_engine_save(engine, state, sizeof state);
+    IS(dsp_engine_close(engine, 0), 0);
+    IS(dsp_engine_load(engine, NULL, 1), DSP_NULL_POINTER);
+    IS(dsp_engine_load(engine, NULL, 0) < DSP_WORN_OUT, true);
+    IS(dsp_engine_load(engine, state + 1, size - 1), DSP_NOT_A_STATE);
+    IS(dsp_engine_load(engine, state, size - 1), DSP_SHORT_STATE);
+    IS(dsp_engine_load(engine, state, size + 1), DSP_LONG_STATE);
+    IS(dsp_engine_write(engine, 0, bytes, 4), DSP_BAD_DESCRIPTOR);
+    IS(dsp_engine_load(engine, state, size), 0);
+    IS(dsp_engine_write(engine, 0, bytes, 4), 4);
+    IS(dsp_engine_load(engine, state, size), 0);
+    IS(dsp_engine_ioctl(engine, 0, DSP_SPEED, 44100, NULL), 0);
+    other.rate = 44100;
+    IS(dsp_engine_new(&slower, &other, NULL, 0, NULL, 0, NULL, 0), 0);
+    IS(dsp_engine_load(&slower, state, size), DSP_OTHER_DEVICE);
+    IS(dsp_engine_write(&slower, 0, bytes, 4), DSP_BAD_DESCRIPTOR);
+    dsp_engine_free(&slower);
+    IS(dsp_engine_close(engine, 0), 0);
+}
+
 /* What answers mean, by the table of docs/SCRIPTS.md and, of those that no script has, by what they say. */
 static void meanings(void) {
-    static const int numbers[] = {EAGAIN, EBUSY, EINVAL, EBADF, EEXIST, ENOMEM, EINVAL, EFAULT, ENXIO, ERANGE, EOVERFLOW};
+    static const int numbers[] = {EAGAIN, EBUSY,  EINVAL,    EBADF,  EEXIST, ENOMEM, EINVAL, EFAULT, ENXIO,
+                                  ERANGE, EOVERFLOW, EINVAL, ENODEV, EINVAL, EINVAL, EINVAL, EINVAL};
     int32_t least = -(int32_t)(sizeof numbers / sizeof numbers[0]);
 
     for (int32_t answer = -1; answer >= least; answer -= 1) {
         IS(dsp_engine_errno(answer), numbers[-1 - answer]);
         IS(strlen(dsp_engine_error(answer)) > 9, true);
     }
-    IS(least, DSP_WORN_OUT);
+    IS(least, DSP_OUT_OF_ORDER);
     IS(dsp_engine_errno(least - 1), EINVAL);
     IS(dsp_engine_errno(INT32_MIN), EINVAL);
     IS(dsp_engine_errno(0), 0);
@@ -299,6 +354,8 @@ int main(void) {
     mapped_channels(&engine);
     unheard(&engine);
     clones(&engine);
+    saves(&engine);
+    loads(&engine);
     IS(dsp_engine_frames_left(&engine), 70368744177664 - 4 - 32);
     dsp_engine_free(&engine);
     IS(dsp_engine_close(&engine, 3), DSP_NOT_AN_ENGINE);

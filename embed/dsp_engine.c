@@ -66,6 +66,26 @@ int32_t dsp_engine_clone(struct dsp_engine *engine, struct dsp_engine *clone) {
     return engine == clone ? DSP_NOT_AN_ENGINE : dsp_raw_clone(engine, clone);
 }
 
+int64_t dsp_engine_state_size(struct dsp_engine *engine) {
+    return engine == NULL ? DSP_NULL_POINTER : dsp_raw_state_size(engine);
+}
+
+int64_t dsp_engine_save(struct dsp_engine *engine, void *state, size_t room) {
+    uint8_t no_byte = 0;
+    if (engine == NULL || is_lacking(state, room)) {
+        return DSP_NULL_POINTER;
+    }
+    return dsp_raw_save(engine, state == NULL ? &no_byte : state, room);
+}
+
+int32_t dsp_engine_load(struct dsp_engine *engine, const void *state, size_t size) {
+    const uint8_t no_byte = 0;
+    if (engine == NULL || is_lacking(state, size)) {
+        return DSP_NULL_POINTER;
+    }
+    return dsp_raw_load(engine, state == NULL ? &no_byte : state, size);
+}
+
 /* ---- calls of an engine ---- */
 
 int32_t dsp_engine_open(struct dsp_engine *engine, uint32_t fd, enum dsp_way way, uint32_t format, uint32_t channels, uint32_t rate) {
@@ -190,8 +210,14 @@ static const struct meaning meanings[] = {
     [-1 - DSP_WRONG_ARGUMENT] = {EINVAL, "a number is outside its limits"},
     [-1 - DSP_NULL_POINTER] = {EFAULT, "a pointer is null that may not be"},
     [-1 - DSP_NOT_AN_ENGINE] = {ENXIO, "there is no engine, or one already where one is to be made"},
-    [-1 - DSP_SHORT_ROOM] = {ERANGE, "the room for what is handed over is too small"},
+    [-1 - DSP_SHORT_ROOM] = {ERANGE, "the room for what is handed over, or for a state, is too small"},
     [-1 - DSP_WORN_OUT] = {EOVERFLOW, "the engine doesn't hand over as many frames any more"},
+    [-1 - DSP_NOT_A_STATE] = {EINVAL, "the bytes don't begin as a state of this version"},
+    [-1 - DSP_OTHER_DEVICE] = {ENODEV, "the state is of another device, or of other filters or sections"},
+    [-1 - DSP_SHORT_STATE] = {EINVAL, "the state ends too early"},
+    [-1 - DSP_LONG_STATE] = {EINVAL, "bytes follow after the end of the state"},
+    [-1 - DSP_UNSPELLED] = {EINVAL, "a number of the state stands for nothing"},
+    [-1 - DSP_OUT_OF_ORDER] = {EINVAL, "counts of the state contradict each other"},
 };
 
 static struct meaning meaning_of(int32_t answer) {

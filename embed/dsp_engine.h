@@ -9,6 +9,8 @@
  *   dsp_engine_new, dsp_engine_free            an engine in a struct of the caller's
  *   dsp_engine_create, dsp_engine_destroy      an engine in a struct of the library's
  *   dsp_engine_clone                           an engine that goes on where another one is
+ *   dsp_engine_state_size, dsp_engine_save,    an engine's state as bytes, and the engine that goes on there
+ *   dsp_engine_load
  *   dsp_engine_open, dsp_engine_close          a client's descriptor
  *   dsp_engine_write, dsp_engine_poke          bytes to the device
  *   dsp_engine_read                            bytes from the device
@@ -28,12 +30,13 @@
  *   dsp_engine_version                         the library's version
  *
  * Each call of an engine answers a number: 0 or more where it was accepted, and one of the negative ones below where not. A call that
- * answers a negative number has changed nothing. No call but dsp_engine_new, dsp_engine_create and dsp_engine_clone takes memory, none
- * waits, and none keeps a pointer of the caller.
+ * answers a negative number has changed nothing. No call but dsp_engine_new, dsp_engine_create, dsp_engine_clone and dsp_engine_load takes
+ * memory, none waits, and none keeps a pointer of the caller.
  *
  * One engine may be used by one thread at a time. Two engines have nothing in common.
  *
- * The library's code is for processors of x86-64-v2, and doesn't test for one. No function takes more than 20 KB of stack.
+ * The library's code is for processors of x86-64-v2, and doesn't test for one. No function takes more than 20 KB of stack,
+ * but dsp_engine_load 30.
  */
 #ifndef DSP_ENGINE_H
 #define DSP_ENGINE_H
@@ -49,7 +52,7 @@ extern "C" {
 /* ---- the version ---- */
 
 /* Of this header: the major number * 65536 + the minor one * 256 + that of the patch. dsp_engine_version answers the library's. */
-#define DSP_ENGINE_VERSION 0x00020000
+#define DSP_ENGINE_VERSION 0x00020100
 
 /* The release of dsp_replay that this header is of. The library keeps a version of its own. */
 #define DSP_RELEASE "0.2.0"
@@ -66,7 +69,7 @@ extern "C" {
 #define DSP_BAD_DESCRIPTOR (-4)
 /* The descriptor is open already. */
 #define DSP_EXISTS (-5)
-/* There is no memory. Only dsp_engine_new, dsp_engine_create and dsp_engine_clone answer it. */
+/* There is no memory. Only dsp_engine_new, dsp_engine_create, dsp_engine_clone and dsp_engine_load answer it. */
 #define DSP_NO_MEMORY (-6)
 /* A number is outside its limits, or captured samples are more than the frames have, or end with a part of a frame. */
 #define DSP_WRONG_ARGUMENT (-7)
@@ -74,16 +77,31 @@ extern "C" {
 #define DSP_NULL_POINTER (-8)
 /* There is no engine; or, where one is to be made, there is one already. */
 #define DSP_NOT_AN_ENGINE (-9)
-/* The room for what is handed over is too small. */
+/* The room for what is handed over, or for a state, is too small. */
 #define DSP_SHORT_ROOM (-10)
 /* The engine doesn't hand over as many frames any more: see dsp_engine_frames_left. */
 #define DSP_WORN_OUT (-11)
+
+/* Why a state isn't loaded. Only dsp_engine_load answers these. */
+
+/* The bytes don't begin as a state of this version. */
+#define DSP_NOT_A_STATE (-12)
+/* The state is of another device, or of other filters or sections. */
+#define DSP_OTHER_DEVICE (-13)
+/* The state ends too early. */
+#define DSP_SHORT_STATE (-14)
+/* Bytes follow after the end of the state. */
+#define DSP_LONG_STATE (-15)
+/* A number of the state stands for nothing. */
+#define DSP_UNSPELLED (-16)
+/* Counts of the state contradict each other. */
+#define DSP_OUT_OF_ORDER (-17)
 
 /* ---- an engine ---- */
 
 /*
  * An engine, or none. The caller has the struct and the library what it points to. It begins as DSP_NO_ENGINE, and may be moved, but not
- * be copied: of two copies one alone may be used again. dsp_engine_clone makes another engine.
+ * be copied: of two copies one alone may be used again. dsp_engine_clone makes another engine, and dsp_engine_save keeps where one is.
  */
 struct dsp_engine {
     bool there;
@@ -289,6 +307,23 @@ void dsp_engine_destroy(struct dsp_engine *engine);
  * DSP_NO_ENGINE: where there is an engine already, none is made. All memory of the clone is taken here. Answers 0, or why there is no clone.
  */
 int32_t dsp_engine_clone(struct dsp_engine *engine, struct dsp_engine *clone);
+
+/* How many bytes dsp_engine_save spells now. They are of what the engine keeps, so each call may change how many. */
+int64_t dsp_engine_state_size(struct dsp_engine *engine);
+
+/*
+ * Spells the engine's state at the front of state, whose other bytes stay. Answers how many bytes it has, or DSP_SHORT_ROOM where room is
+ * less, and then writes nothing. The engine doesn't change, and no memory is taken.
+ */
+int64_t dsp_engine_save(struct dsp_engine *engine, void *state, size_t room);
+
+/*
+ * The engine goes on where a state was saved: its calls are answered as those of the engine that was saved, and hand over the same bytes.
+ * There must be an engine already, of the same device, filters and sections; the one that was saved may be of another process. size is
+ * just that of the state. Any bytes may be given: those that are no state are refused. A whole engine is made here before the old one is
+ * freed. Answers 0, or why the engine goes on where it was.
+ */
+int32_t dsp_engine_load(struct dsp_engine *engine, const void *state, size_t size);
 
 /* ---- calls of an engine ---- */
 

@@ -10,6 +10,9 @@
 int32_t dsp_raw_new(struct dsp_engine *engine, const struct dsp_device *device, const struct dsp_filter *filters, size_t filter_count,
                     const int32_t *coefs, size_t coef_count, const struct dsp_section *sections, size_t section_count);
 int32_t dsp_raw_clone(struct dsp_engine *engine, struct dsp_engine *clone);
+int64_t dsp_raw_state_size(struct dsp_engine *engine);
+int64_t dsp_raw_save(struct dsp_engine *engine, uint8_t *state, size_t room);
+int32_t dsp_raw_load(struct dsp_engine *engine, const uint8_t *state, size_t size);
 void dsp_raw_free(struct dsp_engine *engine);
 int32_t dsp_raw_open(struct dsp_engine *engine, uint32_t fd, uint32_t way, uint32_t format, uint32_t channels, uint32_t rate);
 int32_t dsp_raw_write(struct dsp_engine *engine, uint32_t fd, const uint8_t *bytes, size_t length);

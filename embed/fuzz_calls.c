@@ -7,7 +7,8 @@
  * number is outside the limits of dsp_engine.h. And some sequences are run as scripts by the program, which replies and hands over the
  * same.
  *
- * Now and then the first engine makes way for its clone, which goes on as it would.
+ * Now and then the first engine makes way for its clone, or for another one into which its state was loaded: either goes on as it would.
+ * With a bit turned the state is loaded before, and is taken, or refused as no state.
  *
  * Between the calls the first engine is asked questions. The other one is asked nothing then, or the same, or the same in other words: so
  * a question has changed nothing, and is answered what the calls are. A request is answered as its question was before, and a client can
@@ -218,8 +219,8 @@ static void check_asked(struct run *run, const struct call *call) {
     run->asked = *call;
 }
 
-/* A clone goes on in the place of the first engine, where there is memory for it; and the other engine has none. */
-static void try_clone(struct run *run, const struct call *call) {
+/* A clone, or a loaded engine, goes on in the place of the first engine, where there is memory for it; the other engine stays. */
+static void try_successor(struct run *run, const struct call *call) {
     uint64_t left = dsp_engine_frames_left(run->first);
     int64_t number = 0;
 
@@ -228,14 +229,14 @@ static void try_clone(struct run *run, const struct call *call) {
     number = run->of_first.number;
     count_call(call, number);
     check_room(run, call);
-    must(number == 0 || number == DSP_NO_MEMORY, run, call, "it has no clone");
-    must(dsp_engine_frames_left(run->first) == left, run, call, "the clone has other frames left");
+    must(number == 0 || number == DSP_NO_MEMORY, run, call, "no engine takes its place");
+    must(dsp_engine_frames_left(run->first) == left, run, call, "the one that takes its place has other frames left");
     run->asked = *call;
 }
 
 static void try_call(struct run *run, const struct call *call) {
-    if (call->kind == CALL_ASK || call->kind == CALL_CLONE) {
-        (call->kind == CALL_ASK ? try_question : try_clone)(run, call);
+    if (call->kind == CALL_ASK || call->kind == CALL_CLONE || call->kind == CALL_LOAD) {
+        (call->kind == CALL_ASK ? try_question : try_successor)(run, call);
         return;
     }
     run->made += 1;

@@ -9,14 +9,14 @@
 
 #include "dsp_engine.h"
 
-enum { STACK = 1 << 20, PAINT = 0xa5, NEAR = 512, MOST = 20 << 10 };
+enum { STACK = 1 << 20, PAINT = 0xa5, NEAR = 512, MOST = 20 << 10, LOAD_MOST = 30 << 10 };
 
 static union {
     long double most_aligned;
     unsigned char bytes[STACK];
 } stack;
 
-static bool is_cloned = false;
+static bool is_cloned = false, is_loaded = false;
 
 /* What is measured: a call, and the engine that it is of. */
 struct measured {
@@ -72,6 +72,13 @@ static void clone_and_free(struct dsp_engine *engine) {
     dsp_engine_free(&clone);
 }
 
+/* Its state, and the engine that is made of it and takes its place. */
+static void save_and_load(struct dsp_engine *engine) {
+    static uint8_t state[1 << 22];
+    int64_t size = dsp_engine_save(engine, state, sizeof state);
+    is_loaded = size > 0 && dsp_engine_load(engine, state, (size_t)size) == 0;
+}
+
 /* Paints what lies below this function's own frame, makes the call, and looks how far down it came. */
 static void *measure(void *asked) {
     struct measured *it = asked;
@@ -104,9 +111,13 @@ int main(void) {
     size_t of_writes = stack_of(open_and_write, &engine);
     size_t of_interrupts = stack_of(interrupt_and_read, &engine);
     size_t of_clone = stack_of(clone_and_free, &engine);
+    size_t of_load = stack_of(save_and_load, &engine);
     size_t of_free = stack_of(dsp_engine_free, &engine);
+    bool is_within = of_new <= MOST && of_writes <= MOST && of_interrupts <= MOST && of_clone <= MOST && of_load <= LOAD_MOST && of_free <= MOST;
 
-    printf("bytes of stack: dsp_engine_new %lu, openings and writes %lu, interrupts and reads %lu, dsp_engine_clone %lu, dsp_engine_free %lu\n",
-           (unsigned long)of_new, (unsigned long)of_writes, (unsigned long)of_interrupts, (unsigned long)of_clone, (unsigned long)of_free);
-    return is_made && is_cloned && of_new <= MOST && of_writes <= MOST && of_interrupts <= MOST && of_clone <= MOST && of_free <= MOST ? 0 : 1;
+    printf("bytes of stack: dsp_engine_new %lu, openings and writes %lu, interrupts and reads %lu, dsp_engine_clone %lu, "
+           "dsp_engine_save and dsp_engine_load %lu, dsp_engine_free %lu\n",
+           (unsigned long)of_new, (unsigned long)of_writes, (unsigned long)of_interrupts, (unsigned long)of_clone, (unsigned long)of_load,
+           (unsigned long)of_free);
+    return is_made && is_cloned && is_loaded && is_within ? 0 : 1;
 }

@@ -8,6 +8,7 @@
 #include "call.h"
 
 int32_t __real_dsp_engine_clone(struct dsp_engine *engine, struct dsp_engine *clone);
+int32_t __real_dsp_engine_load(struct dsp_engine *engine, const void *state, size_t size);
 int32_t __real_dsp_engine_open(struct dsp_engine *engine, uint32_t fd, enum dsp_way way, uint32_t format, uint32_t channels, uint32_t rate);
 int32_t __real_dsp_engine_write(struct dsp_engine *engine, uint32_t fd, const void *bytes, size_t length);
 int32_t __real_dsp_engine_poke(struct dsp_engine *engine, uint32_t fd, uint32_t offset, const void *bytes, size_t length);
@@ -33,6 +34,14 @@ int32_t __wrap_dsp_engine_clone(struct dsp_engine *engine, struct dsp_engine *cl
     int32_t number = __real_dsp_engine_clone(engine, clone);
     if (number == 0 && has("a-clone-lacks-a-descriptor")) {
         __real_dsp_engine_close(clone, 0);
+    }
+    return number;
+}
+
+int32_t __wrap_dsp_engine_load(struct dsp_engine *engine, const void *state, size_t size) {
+    int32_t number = __real_dsp_engine_load(engine, state, size);
+    if (number == 0 && has("a-loaded-engine-lacks-a-descriptor")) {
+        __real_dsp_engine_close(engine, 0);
     }
     return number;
 }

@@ -261,6 +261,9 @@ static void take_numbers(struct calls *calls, struct call *call) {
     case CALL_ASK:
         take_question(calls, call);
         break;
+    case CALL_LOAD:
+        call->seed = take_number(input);
+        break;
     default:
         break;
     }
@@ -268,7 +271,7 @@ static void take_numbers(struct calls *calls, struct call *call) {
 
 /* Whether a call's first number is a descriptor. */
 static bool has_descriptor(enum call_kind kind) {
-    return kind != CALL_MIXER && kind != CALL_INTERRUPT && kind != CALL_NEW && kind != CALL_CLONE;
+    return kind != CALL_MIXER && kind != CALL_INTERRUPT && kind != CALL_NEW && kind != CALL_CLONE && kind != CALL_LOAD;
 }
 
 static void take_call(struct calls *calls, struct call *call) {
@@ -277,7 +280,7 @@ static void take_call(struct calls *calls, struct call *call) {
         CALL_WRITE, CALL_POKE,  CALL_POKE,  CALL_READ,  CALL_READ,  CALL_READ,  CALL_IOCTL,     CALL_IOCTL,     CALL_IOCTL,
         CALL_IOCTL, CALL_IOCTL, CALL_IOCTL, CALL_IOCTL, CALL_JOIN,  CALL_START, CALL_CLOSE,     CALL_MIXER,     CALL_MIXER,
         CALL_JOIN,  CALL_START, CALL_NEW,   CALL_INTERRUPT, CALL_INTERRUPT, CALL_INTERRUPT, CALL_INTERRUPT, CALL_INTERRUPT, CALL_INTERRUPT,
-        CALL_ASK,   CALL_ASK,   CALL_ASK,   CALL_ASK,   CALL_ASK,   CALL_ASK,   CALL_ASK,       CALL_ASK,       CALL_ASK,
+        CALL_ASK,   CALL_ASK,   CALL_ASK,   CALL_ASK,   CALL_ASK,   CALL_ASK,   CALL_ASK,       CALL_ASK,       CALL_LOAD,
         CALL_CLONE,
     };
     call->kind = (enum call_kind)take_one_of(&calls->input, kinds, COUNT_OF(kinds));

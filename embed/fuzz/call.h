@@ -17,6 +17,7 @@ enum call_kind {
     CALL_INTERRUPT,
     CALL_NEW, /* of an engine that is there */
     CALL_CLONE, /* of the engine, which makes way for its clone */
+    CALL_LOAD, /* of the engine, which makes way for one that was elsewhere and is loaded with its state */
     CALL_ASK, /* a question */
     CALL_KINDS
 };
@@ -69,7 +70,7 @@ struct call {
     uint32_t numbers[NUMBERS];
     size_t length; /* bytes that it brings, or samples */
     size_t room;   /* bytes that it has room for */
-    uint32_t seed; /* what it brings; of a question what the other engine is asked */
+    uint32_t seed; /* what it brings; of a question what the other engine is asked; of a load the bit that is turned first */
     bool is_null;  /* its pointer to bytes, to room or to an answer */
 };
 

@@ -117,6 +117,7 @@ bool call_is_right(const struct call *call, const struct dsp_device *device) {
     case CALL_NEW:
         return false;
     case CALL_CLONE:
+    case CALL_LOAD:
         return true;
     case CALL_INTERRUPT:
         return interrupt_is_right(call, device);

@@ -71,14 +71,53 @@ bool is_report_marked(const struct got *got, size_t from) {
     return true;
 }
 
-/* Puts a clone of an engine into its place, and frees the engine. */
-static int32_t make_way(struct dsp_engine *engine) {
+/* Puts another engine into the place of one, which is freed. */
+static void make_way(struct dsp_engine *engine, struct dsp_engine other) {
+    dsp_engine_free(engine);
+    *engine = other;
+}
+
+static int32_t clone_engine(struct dsp_engine *engine) {
     struct dsp_engine clone = DSP_NO_ENGINE;
     int32_t number = dsp_engine_clone(engine, &clone);
     if (number == 0) {
-        dsp_engine_free(engine);
-        *engine = clone;
+        make_way(engine, clone);
     }
+    return number;
+}
+
+/* Loads a state into another engine: first with a bit turned, which may be taken or refused, and then, after it was closed, as it is. */
+static int32_t load_twice(struct dsp_engine *other, uint8_t *state, size_t size, uint32_t seed) {
+    uint8_t *turned = &state[seed / 8 % size], mask = (uint8_t)(1 << seed % 8);
+    int32_t number;
+    *turned ^= mask;
+    number = dsp_engine_load(other, state, size);
+    *turned ^= mask;
+    if (number != 0 && number != DSP_NO_MEMORY && (number < DSP_OUT_OF_ORDER || DSP_NOT_A_STATE < number)) {
+        return DSP_UNSPELLED;
+    }
+    for (uint32_t fd = 0; fd < DESCRIPTORS; fd += 1) {
+        dsp_engine_close(other, fd);
+    }
+    return dsp_engine_load(other, state, size);
+}
+
+/* The state of an engine is loaded into another one, which takes its place. */
+static int32_t load_engine(struct dsp_engine *engine, uint32_t seed) {
+    struct dsp_engine other = DSP_NO_ENGINE;
+    int64_t size = dsp_engine_state_size(engine);
+    uint8_t *state = size > 0 ? malloc((size_t)size) : NULL;
+    int32_t number = size < 0 ? (int32_t)size : state == NULL ? DSP_NO_MEMORY : dsp_engine_clone(engine, &other);
+    if (number == 0) {
+        bool is_saved = dsp_engine_save(engine, state, (size_t)size) == size;
+        number = is_saved ? load_twice(&other, state, (size_t)size, seed) : DSP_SHORT_ROOM;
+    }
+    if (number == 0) {
+        make_way(engine, other);
+    } else {
+        dsp_engine_free(&other);
+    }
+    free(state);
     return number;
 }
 
@@ -113,7 +152,9 @@ static int64_t number_of(struct dsp_engine *engine, const struct setup *setup, c
     case CALL_ASK:
         return ask_question(engine, call, &got->report, &got->answer);
     case CALL_CLONE:
-        return make_way(engine);
+        return clone_engine(engine);
+    case CALL_LOAD:
+        return load_engine(engine, call->seed);
     default:
         return make_engine(engine, setup);
     }

@@ -46,14 +46,28 @@ static const char head[] =
     "    }\n"
     "    return samples;\n"
     "}\n\n"
-    "static int32_t make_way(struct dsp_engine *engine) {\n"
+    "static int32_t make_way(struct dsp_engine *engine, struct dsp_engine *other, int32_t number) {\n"
+    "    dsp_engine_free(number == 0 ? engine : other);\n"
+    "    *engine = number == 0 ? *other : *engine;\n"
+    "    return number;\n"
+    "}\n\n"
+    "static int32_t clone_engine(struct dsp_engine *engine) {\n"
     "    struct dsp_engine clone = DSP_NO_ENGINE;\n"
     "    int32_t number = dsp_engine_clone(engine, &clone);\n"
-    "    if (number == 0) {\n"
-    "        dsp_engine_free(engine);\n"
-    "        *engine = clone;\n"
+    "    return make_way(engine, &clone, number);\n"
+    "}\n\n"
+    "static int32_t load_engine(struct dsp_engine *engine, uint32_t seed) {\n"
+    "    struct dsp_engine other = DSP_NO_ENGINE;\n"
+    "    int64_t size = dsp_engine_save(engine, bytes, MOST);\n"
+    "    int32_t number = dsp_engine_clone(engine, &other);\n"
+    "    bytes[seed / 8 % size] ^= (uint8_t)(1 << seed % 8);\n"
+    "    printf(\"turned: %ld\\n\", (long)dsp_engine_load(&other, bytes, (size_t)size));\n"
+    "    bytes[seed / 8 % size] ^= (uint8_t)(1 << seed % 8);\n"
+    "    for (uint32_t fd = 0; fd < DSP_DESCRIPTORS; fd += 1) {\n"
+    "        dsp_engine_close(&other, fd);\n"
     "    }\n"
-    "    return number;\n"
+    "    number = number == 0 ? dsp_engine_load(&other, bytes, (size_t)size) : number;\n"
+    "    return make_way(engine, &other, number);\n"
     "}\n\n"
     "static void told(int64_t number) {\n"
     "    printf(\"%lld: %llu %llu %llu %llu\\n\", (long long)number, (unsigned long long)answer.first, (unsigned long long)answer.second,\n"
@@ -212,7 +226,10 @@ void tell_call(FILE *to, const struct call *call) {
         tell_question(to, call);
         break;
     case CALL_CLONE:
-        fputs("make_way(&engine)", to);
+        fputs("clone_engine(&engine)", to);
+        break;
+    case CALL_LOAD:
+        fprintf(to, "load_engine(&engine, %" PRIu32 "u)", call->seed);
         break;
     case CALL_NEW:
         fputs("dsp_engine_new(&engine, &device, NULL, 0, NULL, 0, NULL, 0)", to);

@@ -3,11 +3,16 @@
 Values are those of docs/SCRIPTS.md, of examples/17-a-mute, or by hand from the rules.
 """
 import copy
+import dataclasses
 import errno
 import gc
+import os
+import pathlib
 import struct
+import subprocess
+import sys
 import unittest
-from typing import Iterator, List
+from typing import Callable, Iterator, List, Optional, Tuple
 
 from dsp_engine import (
     Answer,
@@ -222,6 +227,65 @@ class Questions(unittest.TestCase):
         self.engine.interrupt(1024)
         self.engine.interrupt(100)
         self.assertTrue(self.engine.is_idle)
+
+
+class States(unittest.TestCase):
+    """An engine whose descriptor 0 has started, as bytes."""
+
+    def setUp(self) -> None:
+        self.engine = Engine(SMALL)
+        self.engine.open(0, Way.PLAY, Format.S16_LE, 2, 48000)
+        self.engine.write(0, bytes([7]) * 64)
+        self.engine.post(0)
+        self.engine.discard(16)
+        self.state = self.engine.save()
+
+    def tearDown(self) -> None:
+        self.engine.free()
+
+    def refuses(self, number: Refusal, state: bytes, engine: Optional[Engine] = None) -> None:
+        """Sees that an engine refuses a state with that number, and stays as it is."""
+        asked = engine or self.engine
+        before = asked.save()
+        with self.assertRaises(Refused) as caught:
+            asked.load(state)
+        self.assertEqual(caught.exception.number, number)
+        self.assertEqual(asked.save(), before)
+
+    def test_an_engine_goes_on_where_a_state_was_saved(self) -> None:
+        self.assertEqual(len(self.state), self.engine.state_size)
+        self.engine.close(0)
+        self.engine.interrupt(16)
+        for engine in (self.engine, Engine(SMALL)):
+            engine.load(bytearray(self.state))
+            self.assertEqual(engine.save(), self.state)
+            self.assertEqual(engine.interrupt(16), bytes([7]) * 64)
+            self.assertEqual(engine.errors(0), Errors(1, 0))
+
+    def test_another_process_goes_on(self) -> None:
+        code = "import sys; from dsp_engine import Device, Engine; engine = Engine(Device(*map(int, sys.argv[1:])));"
+        code += "engine.load(sys.stdin.buffer.read()); sys.stdout.buffer.write(engine.interrupt(16) + engine.save())"
+        words = [sys.executable, "-B", "-c", code, *(str(int(it)) for it in dataclasses.astuple(SMALL))]
+        env = {**os.environ, "PYTHONPATH": str(pathlib.Path(__file__).resolve().parent)}
+        ran = subprocess.run(words, input=self.state, stdout=subprocess.PIPE, env=env, check=True)
+        self.assertEqual(ran.stdout, self.engine.interrupt(16) + self.engine.save())
+
+    def test_states_that_are_refused(self) -> None:
+        self.refuses(Refusal.NOT_A_STATE, bytes([self.state[0] + 1]) + self.state[1:])
+        self.refuses(Refusal.SHORT_STATE, self.state[:-1])
+        self.refuses(Refusal.LONG_STATE, self.state + b"1")
+        self.refuses(Refusal.OTHER_DEVICE, self.state, Engine(Device()))
+        half = Section(shift=1, b0=1, b1=0, b2=0, a1=0, a2=0)
+        self.refuses(Refusal.OTHER_DEVICE, self.state, Engine(SMALL, [], [half]))
+
+    def test_a_freed_engine_has_no_state(self) -> None:
+        with Engine(SMALL) as engine:
+            engine.free()
+            calls: Tuple[Callable[[], object], ...] = (engine.save, lambda: engine.load(self.state), lambda: engine.state_size)
+            for call in calls:
+                with self.assertRaises(Refused) as caught:
+                    call()
+                self.assertEqual(caught.exception.number, Refusal.NOT_AN_ENGINE)
 
 
 class Refusals(unittest.TestCase):

@@ -76,7 +76,7 @@ class Engine:
             self.free()
 
     def __reduce__(self) -> Any:
-        raise TypeError("an engine has no copy: see clone")
+        raise TypeError("an engine has no copy: see clone and save")
 
     def clone(self) -> "Engine":
         """An engine that goes on where this one is, and answers the same calls alike."""
@@ -84,6 +84,24 @@ class Engine:
         other._begin(self._device)
         self._call("clone", other._handle)
         return other
+
+    @property
+    def state_size(self) -> int:
+        """How many bytes `save` answers now."""
+        return self._call("state_size")
+
+    def save(self) -> bytes:
+        """The state of the engine, which an engine of the same device, filters and sections can `load`, also in another process."""
+        with self._lock:
+            size = accepted(self._library.dsp_engine_state_size(self._handle))
+            room = ctypes.create_string_buffer(size)
+            accepted(self._library.dsp_engine_save(self._handle, room, size))
+        return room.raw
+
+    def load(self, state: Bytes) -> None:
+        """The engine goes on where a state was saved. Bytes that are none of its device are refused, and it goes on where it was."""
+        content = bytes(memoryview(state))
+        self._call("load", content, len(content))
 
     def free(self) -> None:
         """Frees the engine. Whatever is called then is refused."""

@@ -10,7 +10,7 @@ from .refusals import refused
 
 VARIABLE = "DSP_ENGINE_LIBRARY"
 NAMES = ("libdsp_engine.so.2", "libdsp_engine.so", "libdsp_engine.dylib")
-MAJOR, MINOR = 2, 0  # the version of the library that this package needs: a later minor one fits, too
+MAJOR, MINOR = 2, 1  # the version of the library that this package needs: a later minor one fits, too
 
 U32 = ctypes.c_uint32
 SIZE = ctypes.c_size_t
@@ -81,6 +81,9 @@ PARAMETERS = {
     ],
     "free": [Handle],
     "clone": [Handle, Handle],
+    "state_size": [Handle],
+    "save": [Handle, ctypes.c_void_p, SIZE],
+    "load": [Handle, ctypes.c_char_p, SIZE],
     "open": [Handle, U32, U32, U32, U32, U32],
     "write": [Handle, U32, ctypes.c_char_p, SIZE],
     "poke": [Handle, U32, U32, ctypes.c_char_p, SIZE],
@@ -102,7 +105,15 @@ PARAMETERS = {
     "error": [ctypes.c_int32],
     "errno": [ctypes.c_int32],
 }
-RESULTS = {"free": None, "frames_left": ctypes.c_uint64, "frames_until": ctypes.c_int64, "version": U32, "error": ctypes.c_char_p}
+RESULTS = {
+    "free": None,
+    "state_size": ctypes.c_int64,
+    "save": ctypes.c_int64,
+    "frames_left": ctypes.c_uint64,
+    "frames_until": ctypes.c_int64,
+    "version": U32,
+    "error": ctypes.c_char_p,
+}
 
 
 def places() -> Iterator[str]:

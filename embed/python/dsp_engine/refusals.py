@@ -16,6 +16,12 @@ class Refusal(IntEnum):
     NOT_AN_ENGINE = -9
     SHORT_ROOM = -10
     WORN_OUT = -11
+    NOT_A_STATE = -12
+    OTHER_DEVICE = -13
+    SHORT_STATE = -14
+    LONG_STATE = -15
+    UNSPELLED = -16
+    OUT_OF_ORDER = -17
 
 
 class Refused(OSError):

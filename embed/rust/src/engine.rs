@@ -5,7 +5,7 @@ use crate::device::{numbers_of, Device, Filter, Section};
 use crate::format::Format;
 use crate::questions::{Ready, Settings, Slot};
 use crate::raw;
-use crate::refusal::{accepted, Refusal};
+use crate::refusal::{accepted, accepted_long, Refusal};
 use crate::requests::{MixerRequest, Request, Trigger, Way};
 
 /// An engine of a device, which is freed where it is dropped. It may be moved to another thread.
@@ -46,6 +46,25 @@ impl Engine {
         // SAFETY: as in all calls below, the engine's handle is lent to nobody else. That of the clone is none.
         accepted(unsafe { raw::dsp_engine_clone(&mut self.handle, &mut handle) })?;
         Ok(Engine { handle })
+    }
+
+    /// How many bytes `save` spells now.
+    pub fn state_size(&mut self) -> usize {
+        // SAFETY: see `try_clone`. An engine that is there has a state.
+        accepted_long(unsafe { raw::dsp_engine_state_size(&mut self.handle) }).map_or(0, |it| it as usize)
+    }
+
+    /// Spells the state at the front of `out`, whose other bytes stay. Answers how many bytes it has.
+    pub fn save(&mut self, out: &mut [u8]) -> Result<usize, Refusal> {
+        // SAFETY: there is so much room.
+        accepted_long(unsafe { raw::dsp_engine_save(&mut self.handle, out.as_mut_ptr(), out.len()) }).map(|it| it as usize)
+    }
+
+    /// The engine goes on where a state was saved, of an engine of the same device, filters and sections. Bytes that are none are refused,
+    /// and it goes on where it was. The memory of a whole engine is taken here, and that of the old one given back.
+    pub fn load(&mut self, state: &[u8]) -> Result<(), Refusal> {
+        // SAFETY: as many bytes stand there.
+        accepted(unsafe { raw::dsp_engine_load(&mut self.handle, state.as_ptr(), state.len()) }).map(|_| ())
     }
 
     /// The version of the library: its major, minor and patch number.
@@ -332,8 +351,7 @@ impl Engine {
     /// After how many frames that interrupts take a write of `bytes` bytes fits whole, or as many can be read, if nothing else happens.
     pub fn frames_until(&mut self, fd: u32, bytes: u32) -> Result<u64, Refusal> {
         // SAFETY: see `open`.
-        let frames = unsafe { raw::dsp_engine_frames_until(&mut self.handle, fd, bytes) };
-        u64::try_from(frames).or_else(|_| accepted(frames as i32).map(u64::from))
+        accepted_long(unsafe { raw::dsp_engine_frames_until(&mut self.handle, fd, bytes) })
     }
 }
 

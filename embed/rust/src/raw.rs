@@ -63,6 +63,9 @@ extern "C" {
     ) -> i32;
     pub fn dsp_engine_free(engine: &mut Handle);
     pub fn dsp_engine_clone(engine: &mut Handle, clone: &mut Handle) -> i32;
+    pub fn dsp_engine_state_size(engine: &mut Handle) -> i64;
+    pub fn dsp_engine_save(engine: &mut Handle, state: *mut u8, room: usize) -> i64;
+    pub fn dsp_engine_load(engine: &mut Handle, state: *const u8, size: usize) -> i32;
     pub fn dsp_engine_open(engine: &mut Handle, fd: u32, way: u32, format: u32, channels: u32, rate: u32) -> i32;
     pub fn dsp_engine_write(engine: &mut Handle, fd: u32, bytes: *const u8, length: usize) -> i32;
     pub fn dsp_engine_poke(engine: &mut Handle, fd: u32, offset: u32, bytes: *const u8, length: usize) -> i32;

@@ -28,16 +28,28 @@ pub enum Refusal {
     NullPointer,
     /// There is no engine.
     NotAnEngine,
-    /// The room for what is handed over is too small.
+    /// The room for what is handed over, or for a state, is too small.
     ShortRoom,
     /// The engine doesn't hand over as many frames any more.
     WornOut,
+    /// The bytes don't begin as a state of this version.
+    NotAState,
+    /// The state is of another device, or of other filters or sections.
+    OtherDevice,
+    /// The state ends too early.
+    ShortState,
+    /// Bytes follow after the end of the state.
+    LongState,
+    /// A number of the state stands for nothing.
+    Unspelled,
+    /// Counts of the state contradict each other.
+    OutOfOrder,
     /// A number that this crate doesn't know.
     Other(i32),
 }
 
 /// All refusals with a name, in the order of their numbers from -1 down.
-const NAMED: [Refusal; 11] = [
+const NAMED: [Refusal; 17] = [
     Refusal::Again,
     Refusal::Busy,
     Refusal::Invalid,
@@ -49,6 +61,12 @@ const NAMED: [Refusal; 11] = [
     Refusal::NotAnEngine,
     Refusal::ShortRoom,
     Refusal::WornOut,
+    Refusal::NotAState,
+    Refusal::OtherDevice,
+    Refusal::ShortState,
+    Refusal::LongState,
+    Refusal::Unspelled,
+    Refusal::OutOfOrder,
 ];
 
 impl Refusal {
@@ -76,6 +94,11 @@ impl Refusal {
 /// What a call answered, if it was accepted.
 pub(crate) fn accepted(number: i32) -> Result<u32, Refusal> {
     u32::try_from(number).map_err(|_| Refusal::from_number(number))
+}
+
+/// What a call with a greater answer answered, if it was accepted.
+pub(crate) fn accepted_long(number: i64) -> Result<u64, Refusal> {
+    u64::try_from(number).map_err(|_| Refusal::from_number(number as i32))
 }
 
 impl fmt::Display for Refusal {

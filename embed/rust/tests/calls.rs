@@ -171,6 +171,49 @@ fn a_clone_goes_on_where_its_engine_is() {
 }
 
 #[test]
+fn an_engine_goes_on_where_a_state_was_saved() {
+    let mut engine = engine();
+    let mut out = [0; 64];
+    engine.open(0, Way::Play, Format::S16Le, 2, 48000).unwrap();
+    engine.write(0, &[7; 64]).unwrap();
+    engine.post(0).unwrap();
+    engine.discard(16, &[]).unwrap();
+    let mut state = vec![9; engine.state_size() + 1];
+    let size = state.len() - 1;
+    assert_eq!(engine.save(&mut state[..size - 1]), Err(Refusal::ShortRoom));
+    assert_eq!(state, vec![9; size + 1]);
+    assert_eq!((engine.save(&mut state), state[size]), (Ok(size), 9));
+    engine.close(0).unwrap();
+    let mut other = Engine::new(&small(), &[], &[]).unwrap();
+    for it in [&mut engine, &mut other] {
+        let mut again = vec![0; size];
+        assert_eq!((it.load(&state[..size]), it.save(&mut again)), (Ok(()), Ok(size)));
+        assert_eq!(again, state[..size]);
+        assert_eq!(it.interrupt(16, &[], &mut out).map(|it| it.to_vec()), Ok(vec![7; 64]));
+        assert_eq!(it.errors(0), Ok(Errors { underruns: 1, overruns: 0 }));
+    }
+}
+
+#[test]
+fn states_that_are_refused() {
+    let mut engine = engine();
+    let mut state = vec![0; engine.state_size() + 1];
+    let size = engine.save(&mut state).unwrap();
+    engine.open(0, Way::Play, Format::S16Le, 2, 48000).unwrap();
+    assert!(engine.load(&[]).is_err());
+    assert_eq!(engine.load(&state[..size - 1]), Err(Refusal::ShortState));
+    assert_eq!(engine.load(&state), Err(Refusal::LongState));
+    state[0] ^= 1;
+    assert_eq!(engine.load(&state[..size]), Err(Refusal::NotAState));
+    state[0] ^= 1;
+    let mut other = Engine::new(&Device::default(), &[], &[]).unwrap();
+    assert_eq!(other.load(&state[..size]), Err(Refusal::OtherDevice));
+    assert_eq!((Refusal::NotAState.number(), Refusal::OutOfOrder.number()), (-12, -17));
+    assert_eq!((engine.write(0, &[0; 4]), engine.load(&state[..size])), (Ok(4), Ok(())));
+    assert_eq!(engine.close(0), Err(Refusal::BadDescriptor));
+}
+
+#[test]
 fn questions_change_nothing() {
     let mut engine = Engine::new(&Device { map_slots: 1, ..Device::default() }, &[], &[]).unwrap();
     engine.open(2, Way::Play, Format::S16Le, 2, 48000).unwrap();
