@@ -36,7 +36,7 @@
  * One engine may be used by one thread at a time. Two engines have nothing in common.
  *
  * The library's code is for processors of x86-64-v2, and doesn't test for one. No function takes more than 20 KB of stack,
- * but dsp_engine_load 30.
+ * but dsp_engine_load 24.
  */
 #ifndef DSP_ENGINE_H
 #define DSP_ENGINE_H

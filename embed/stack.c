@@ -9,7 +9,7 @@
 
 #include "dsp_engine.h"
 
-enum { STACK = 1 << 20, PAINT = 0xa5, NEAR = 512, MOST = 20 << 10, LOAD_MOST = 30 << 10 };
+enum { STACK = 1 << 20, PAINT = 0xa5, NEAR = 512, MOST = 20 << 10, LOAD_MOST = 24 << 10 };
 
 static union {
     long double most_aligned;

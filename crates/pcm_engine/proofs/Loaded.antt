@@ -20,7 +20,7 @@ use Rattle.pcm_save.specs.Parts.{HasRow, IsPart}
 use Rattle.pcm_engine.specs.declared.descriptors.Descriptors.{Descriptors}
 use Rattle.pcm_engine.specs.declared.engine.EngineOf.{EngineOf}
 use Rattle.pcm_engine.specs.Engines.{AreReady, desk_of, device_of}
-use Rattle.pcm_engine.specs.Loads.{AreInPlace, IsOfParts, IsParentFrom}
+use Rattle.pcm_engine.specs.Loads.{AreInPlace, IsParentFrom}
 use Rattle.pcm_engine.specs.Saved.{AreWhole, HasState, descriptors_state, head_row}
 use Rattle.pcm_engine.proofs.InOrder.{each_book, here-seen, ready-all}
 use Rattle.pcm_engine.proofs.Judging.{all-here, members-wait}
@@ -88,14 +88,3 @@ parts-state {B} kind kept device filters handed bytes rest engine has read =
           ∙ ap (λ (count : ℕ). head (digest_of filters device) count ++ (descriptors_state engine.descriptors ++ parent_state kept engine.parent)) (sym has.from.handed_is)
           ∙ ap (λ (number : ℕ). head number engine.parent.handed ++ (descriptors_state engine.descriptors ++ parent_state kept engine.parent)) (sym digest);
     }
-
--- an engine has the parts that it was made of
-pub made-parts : {B : Type 0} (kind : B → Kind) (kept : B → Kept) (device : Device) (filters : Filters) (handed : ℕ) (bytes : List ℕ) (parent : ParentOf B) (descriptors : Descriptors) (engine : EngineOf B) → IsOfParts parent filters descriptors engine
-    → IsParentFrom kind kept filters device handed bytes parent → AreInPlace parent descriptors → AreWhole descriptors → IsInLimits (seen filters device) → HasParts kind kept device filters handed bytes engine
-made-parts {B} kind kept device filters handed bytes parent descriptors engine made from place whole limits = record {
-  from = subst (IsParentFrom kind kept filters device handed bytes) (sym made.parent_is) from;
-  place = subst (λ (p : ParentOf B). AreInPlace p engine.descriptors) (sym made.parent_is) (subst (AreInPlace parent) (sym made.descriptors_are) place);
-  whole = subst AreWhole (sym made.descriptors_are) whole;
-  filters_are = made.filters_are;
-  limits = limits;
-}

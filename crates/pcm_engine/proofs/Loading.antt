@@ -1,7 +1,8 @@
 -- A parent that was loaded, and what an engine is made of.
-use Rattle.std.proofs.Common.{◌≡◌, ℕ, ◌<◌, ◌≤◌, ◌^◌, ℤ, pos, List, [], ◌∷◌, take, drop, map, sym, ap, ◌∙◌, subst, arith}
+use Rattle.std.proofs.Common.{◌≡◌, ℕ, ◌<◌, ◌≤◌, ◌^◌, ℤ, pos, List, [], ◌∷◌, length, take, drop, map, sym, ap, ◌∙◌, subst, arith}
 use Rattle.std.specs.Prelude.{All, ◌≤ℤ◌}
 use Rattle.std.proofs.lemmas.Int.{ints}
+use Rattle.std.proofs.lemmas.List.{take_all}
 use Rattle.std.proofs.lemmas.List.Elements.{All-nil, All-cons, All-head, All-tail}
 use Rattle.pcm_engine.specs.Types.{Device, Filters, Kept, Kind}
 use Rattle.pcm_feeder.specs.declared.rack.RackOf.{RackOf}
@@ -15,10 +16,11 @@ use Rattle.pcm_play.specs.declared.channel.PlayChannelOf.{PlayChannelOf}
 use Rattle.pcm_record.specs.declared.channel.RecordChannelOf.{RecordChannelOf}
 use Rattle.pcm_map.specs.declared.channel.MapChannelOf.{MapChannelOf}
 use Rattle.pcm_vchan.specs.declared.parent.ParentOf.{ParentOf}
-use Rattle.pcm_vchan.specs.Parents.{map_channels, play_channels, record_channels, AreServed, HasRacks}
+use Rattle.pcm_vchan.specs.Parents.{map_channels, play_channels, record_channels, AreMapUnopened, ArePlayUnopened, AreRecordUnopened, AreServed, HasBus, HasRacks}
 use Rattle.pcm_save.specs.Outputs.{HandedFits}
 use Rattle.pcm_save.specs.Parents.{HasLoadedParent}
 use Rattle.pcm_engine.specs.declared.limits.TheConstants.{LIFE}
+use Rattle.pcm_engine.specs.Loads.{IsParentFrom}
 
 -- few frames are mixed for those that an engine hands over
 pub mixed-life : (device : DeviceSeen) (handed : ℕ) → IsInLimits device → handed ≤ LIFE → mixed_for device handed < 2 ^ 53
@@ -52,6 +54,15 @@ pub record AreMade {B : Type 0} (device : Device) (parent : ParentOf B) : Type 0
   pub recording : All (λ (channel : RecordChannelOf B). channel.path.device ≡ device) (record_channels parent)
   pub mapped : All (λ (channel : MapChannelOf B). channel.path.device ≡ device) (map_channels parent)
 
+pub are-made : {B : Type 0} (kind : B → Kind) (kept : B → Kept) (filters : Filters) (device : Device) (parent : ParentOf B) → parent.device ≡ device → ArePlayUnopened kind kept filters device parent
+    → AreRecordUnopened kind kept filters device parent → AreMapUnopened kind kept filters device parent → AreMade device parent
+are-made kind kept filters device parent is playing recording mapped = record {
+  device_is = is;
+  playing = λ slot other there. (playing slot other there).device_is;
+  recording = λ slot other there. (recording slot other there).device_is;
+  mapped = λ slot other there. (mapped slot other there).device_is;
+}
+
 -- and once it was loaded they are so still, and ready
 pub loaded-served : {B : Type 0} (kind : B → Kind) (kept : B → Kept) (mark : B → ℕ) (filters : Filters) (device : Device) (handed : ℕ) (bytes : List ℕ) (count : ℕ) (old new : ParentOf B) → AreMade device old
     → HasLoadedParent kind kept mark filters handed bytes count old new → AreServed kind kept filters new
@@ -76,3 +87,17 @@ loaded-racks {B} kind kept mark filters handed bytes count old new racks has loa
   recording = loaded.all.recording.marks ∙ has.recording ∙ ap (λ (d : Device). rack_marks mark (take d.record_slots (drop SLOTS racks))) (sym loaded.device_same);
   bus = ap (λ marks. marks ∷ []) loaded.bus_marks ∙ has.bus;
 }
+
+-- all of the bytes were loaded, so they spell it
+pub loaded-from : {B : Type 0} (kind : B → Kind) (kept : B → Kept) (mark : B → ℕ) (filters : Filters) (device : Device) (handed : ℕ) (bytes : List ℕ) (old new : ParentOf B) → AreMade device old
+    → HasLoadedParent kind kept mark filters handed bytes (length bytes) old new → IsParentFrom kind kept filters device handed bytes new
+loaded-from {B} kind kept mark filters device handed bytes old new made loaded =
+    let is : new.device ≡ device = loaded.device_same ∙ made.device_is in
+    record {
+      device_is = is;
+      handed_is = loaded.handed_is;
+      told = loaded.told ∙ take_all (length bytes) bytes (omega arith);
+      served = loaded-served kind kept mark filters device handed bytes (length bytes) old new made loaded;
+      bus = subst (λ (d : Device). HasBus kept (seen filters d) new) is loaded.has_bus;
+      whole = loaded.whole;
+    }

@@ -2,15 +2,15 @@
 use Rattle.std.specs.Prelude.{◌≡◌, ◌<◌, ◌≤◌, ◌*◌, ◌^◌, ℕ, true, List}
 use Rattle.std.specs.List.{list_all}
 use Rattle.pcm_engine.specs.Types.{Device, Filters, Kept, Kind}
-use Rattle.pcm_feeder.specs.declared.rack.RacksOf.{RacksOf}
-use Rattle.pcm_feeder.specs.Racks.{list_of}
 use Rattle.pcm_oss.specs.declared.fragments.TheConstants.{RING_BYTES}
 use Rattle.pcm_desk.specs.Device.{seen}
-use Rattle.pcm_save.specs.Parents.{parent_state, IsWholeParent}
+use Rattle.pcm_bus.specs.Handovers.{IsPlannedBy}
+use Rattle.pcm_chain.specs.Chains.{IsOfKinds}
+use Rattle.pcm_save.specs.Outputs.{HandedFits}
+use Rattle.pcm_save.specs.Parents.{parent_state, HaveAllBoxes, IsWholeParent}
 use Rattle.pcm_vchan.specs.declared.parent.ParentOf.{ParentOf}
-use Rattle.pcm_vchan.specs.Parents.{here_of, map_channels, play_channels, record_channels, AreServed, HasBus, HasRacks}
+use Rattle.pcm_vchan.specs.Parents.{here_of, map_channels, play_channels, record_channels, AreServed, HasBus}
 use Rattle.pcm_engine.specs.declared.descriptors.Descriptors.{Descriptors}
-use Rattle.pcm_engine.specs.declared.engine.EngineOf.{EngineOf}
 use Rattle.pcm_engine.specs.declared.limits.TheConstants.{LIFE}
 use Rattle.pcm_engine.specs.Judged.{is_held_or_shut, map_keeps_pace, play_is_in_place, play_waits, record_keeps_pace, record_waits, WaitInGroups}
 
@@ -38,13 +38,9 @@ pub record AreInPlace {B : Type 0} (parent : ParentOf B) (descriptors : Descript
   pub players : WaitInGroups (λ channel. play_waits channel.book) descriptors.groups.play (play_channels parent)
   pub recorders : WaitInGroups (λ channel. record_waits channel.book) descriptors.groups.recording (record_channels parent)
 
--- an engine has these parts
-pub record IsOfParts {B : Type 0} (parent : ParentOf B) (filters : Filters) (descriptors : Descriptors) (engine : EngineOf B) : Type 0 where
-  pub parent_is : engine.parent ≡ parent
-  pub filters_are : engine.tables ≡ filters
-  pub descriptors_are : engine.descriptors ≡ descriptors
-
--- a parent comes from bytes, and has the boxes of racks
-pub record HasCome {B : Type 0} (kind : B → Kind) (kept : B → Kept) (mark : B → ℕ) (filters : Filters) (device : Device) (handed : ℕ) (racks : RacksOf B) (bytes : List ℕ) (parent : ParentOf B) : Type 0 where
-  pub from : IsParentFrom kind kept filters device handed bytes parent
-  pub racks_are : HasRacks mark (list_of racks) parent
+-- a parent was made new, and can be loaded where so many frames were handed over
+pub record IsMadeFor {B : Type 0} (kind : B → Kind) (filters : Filters) (handed : ℕ) (parent : ParentOf B) : Type 0 where
+  pub bus_kinds : IsOfKinds kind parent.bus.chain
+  pub planned : IsPlannedBy (seen filters parent.device) parent.bus.chain
+  pub fits : HandedFits filters handed parent
+  pub boxes : HaveAllBoxes kind parent

@@ -48,7 +48,6 @@ impl<B: Feeder> EngineOf<B> {
     ghost use Rattle.pcm_engine.specs.Brought.{padded};
     ghost use Rattle.pcm_feeder.specs.Racks.{AreRacks, list_of};
     ghost use Rattle.pcm_engine.specs.Clones.{IsCloneOf};
-    ghost use Rattle.pcm_engine.specs.Loads.{IsOfParts};
     ghost use Rattle.pcm_engine.specs.Engines.{AreReady, CanBeMade, CanStep, CanStepWith, HasStepped, Stands, StepsAs, StepsAsCalled, device_of, samples_at_hand, samples_most};
 
     /// The engine of a device with its filters, before its first event. Its channels pick their stages from the racks, one rack a slot; after
@@ -69,15 +68,13 @@ impl<B: Feeder> EngineOf<B> {
     {
         let parent = ParentOf::new(alloc, device, &tables, racks)?;
         let descriptors = Descriptors::all_shut(alloc)?;
-        let samples = device.ring_frames as usize * device.settings.layout.channels();
-        let captured = vec![in alloc; 0i32; samples]?;
-        let answered = vec![in alloc; 0u8; REPLY_BYTES]?;
+        let (captured, answered) = room_for(alloc, &parent.device)?;
         Ok(EngineOf {
             parent,
             tables,
             descriptors,
-            captured: Fixed::new(captured),
-            answered: Fixed::new(answered),
+            captured,
+            answered,
         })
     }
 
@@ -92,37 +89,13 @@ impl<B: Feeder> EngineOf<B> {
         let tables = copied(alloc, &self.tables)?;
         let parent = self.parent.try_clone(alloc, &tables, racks)?;
         let descriptors = self.descriptors.try_clone(alloc)?;
-        let captured = vec![in alloc; 0i32; self.captured.iter().len()]?;
-        let answered = vec![in alloc; 0u8; REPLY_BYTES]?;
+        let (captured, answered) = room_for(alloc, &parent.device)?;
         Ok(EngineOf {
             parent,
             tables,
             descriptors,
-            captured: Fixed::new(captured),
-            answered: Fixed::new(answered),
-        })
-    }
-
-    // The engine of these parts, with memory of its own for what is captured and answered.
-    pub(crate) fn of_parts(
-        alloc: Global,
-        parent: ParentOf<B>,
-        tables: Tables,
-        descriptors: Descriptors,
-    ) -> Result<EngineOf<B>, AllocError>
-        requires { PartsInOrder parent descriptors }
-        ensures { IfOk result (IsOfParts parent tables descriptors) }
-    {
-        let device = &parent.device;
-        let samples = device.ring_frames as usize * device.settings.layout.channels();
-        let captured = vec![in alloc; 0i32; samples]?;
-        let answered = vec![in alloc; 0u8; REPLY_BYTES]?;
-        Ok(EngineOf {
-            parent,
-            tables,
-            descriptors,
-            captured: Fixed::new(captured),
-            answered: Fixed::new(answered),
+            captured,
+            answered,
         })
     }
 
@@ -220,6 +193,20 @@ impl<B: Feeder> EngineOf<B> {
             ),
         }
     }
+}
+
+/// Memory for what a device captures at an interrupt, and for the bytes of a reply.
+pub(crate) fn room_for(
+    alloc: Global,
+    device: &Device,
+) -> Result<(Fixed<i32>, Fixed<u8>), AllocError>
+    ensures captured { IfOk result (λ room. fixed_len room.0 ≡ device.now.ring_frames * channels_of device.now.settings.layout) }
+    ensures answered { IfOk result (λ room. fixed_len room.1 ≡ REPLY_BYTES) }
+{
+    let samples = device.ring_frames as usize * device.settings.layout.channels();
+    let captured = vec![in alloc; 0i32; samples]?;
+    let answered = vec![in alloc; 0u8; REPLY_BYTES]?;
+    Ok((Fixed::new(captured), Fixed::new(answered)))
 }
 
 // Keeps an answer with which no bytes come. No bytes go to the device with such an answer.

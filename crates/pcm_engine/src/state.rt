@@ -2,18 +2,19 @@
 
 ghost use Rattle.std.specs.Prelude.{◌≡◌, ◌≤◌, ◌<◌, ◌+◌, ◌*◌, ◌^◌, IfOk, drop, length};
 ghost use Rattle.pcm_digest.specs.Digests.{digest_of};
+ghost use Rattle.pcm_save.specs.Parents.{HasLoadedParent};
 ghost use Rattle.pcm_save.specs.Parts.{HasRow};
 ghost use Rattle.pcm_vchan.specs.Parents.{HasRacks};
 ghost use Rattle.pcm_engine.specs.declared.limits.TheConstants.{LIFE};
 ghost use Rattle.pcm_feeder.specs.Racks.{list_of};
 ghost use Rattle.pcm_engine.specs.Engines.{CanBeMade};
-ghost use Rattle.pcm_engine.specs.Loads.{AreInPlace, CanBeJudged, HasCome};
+ghost use Rattle.pcm_engine.specs.Loads.{AreInPlace, CanBeJudged, IsMadeFor};
 ghost use Rattle.pcm_engine.specs.Saved.{engine_state, head_row, CanBeSaved, HasRacksFor, HasState, IsEngineOf};
 
 use crate::LoadFault;
 use crate::counts::{are_in_place, maps_keep_pace, recordings_keep_pace};
 use crate::descriptors::{DESCRIPTOR_BYTES, Descriptors};
-use crate::engine::EngineOf;
+use crate::engine::{EngineOf, room_for};
 use crate::limits::{LIFE, STATE_VERSION};
 use crate::load_fault::ordered;
 use crate::places::{are_held_or_shut, play_members_wait, record_members_wait};
@@ -60,6 +61,8 @@ impl<B: Feeder> EngineOf<B> {
 
     /// The engine of a device with its filters that goes on as the bytes tell, which `save` has spelled. Its channels pick their stages from the
     /// racks, one rack a slot; after a refusal the racks are dropped. Whatever the bytes are, the engine is ready. All its memory is taken here.
+    // Not inlined: so its engine stands on the stack once while it is made.
+    #[inline(never)]
     pub fn load(
         alloc: Global,
         device: Device,
@@ -77,10 +80,17 @@ impl<B: Feeder> EngineOf<B> {
     {
         let handed = handed_in(&device, &tables, bytes)?;
         let descriptors = Descriptors::load(alloc, &bytes[HEAD_BYTES..])?;
-        let parent = parent_from(alloc, device, &tables, racks, handed, &bytes[HEAD_BYTES..])?;
+        let mut parent = ParentOf::new(alloc, device, &tables, racks)?;
+        load_all(alloc, &mut parent, &tables, handed, &bytes[HEAD_BYTES..])?;
         judge(&parent, &descriptors)?;
-        let engine = EngineOf::of_parts(alloc, parent, tables, descriptors)?;
-        Ok(engine)
+        let (captured, answered) = room_for(alloc, &parent.device)?;
+        Ok(EngineOf {
+            captured,
+            answered,
+            descriptors,
+            tables,
+            parent,
+        })
     }
 
     /// The engine that goes on as the bytes tell, of the same device and filters as this one. Nothing of this engine changes.
@@ -98,8 +108,7 @@ impl<B: Feeder> EngineOf<B> {
         ensures racks { IfOk result (λ loaded. HasRacks B.mark (list_of racks) loaded.parent) }
     {
         let tables = copied(alloc, &self.tables)?;
-        let engine = EngineOf::load(alloc, self.parent.device, tables, racks, bytes)?;
-        Ok(engine)
+        EngineOf::load(alloc, self.parent.device, tables, racks, bytes)
     }
 }
 
@@ -121,30 +130,26 @@ fn handed_in(device: &Device, tables: &Tables, bytes: &[u8]) -> Result<u64, Load
     Ok(handed)
 }
 
-// The parent that goes on as all bytes behind the descriptors tell.
-// Not inlined: a parent stands on the stack twice while it is made.
-#[inline(never)]
-fn parent_from<B: Feeder>(
+// A parent that was made new goes on as all bytes behind the descriptors tell.
+fn load_all<B: Feeder>(
     alloc: Global,
-    device: Device,
+    parent: &mut ParentOf<B>,
     tables: &Tables,
-    racks: RacksOf<B>,
     handed: u64,
     bytes: &[u8],
-) -> Result<ParentOf<B>, LoadFault>
-    requires made { CanBeMade B.kind tables.now device racks }
-    requires life { handed ≤ LIFE }
+) -> Result<(), LoadFault>
+    requires made { IsMadeFor B.kind tables.now handed parent.old }
     requires front { DESCRIPTOR_BYTES ≤ length bytes.now }
-    ensures { IfOk result (HasCome B.kind B.kept B.mark tables.now device handed racks (drop DESCRIPTOR_BYTES bytes.now)) }
+    ensures { IfOk result (λ _. HasLoadedParent B.kind B.kept B.mark tables.now handed
+        (drop DESCRIPTOR_BYTES bytes.now) (length (drop DESCRIPTOR_BYTES bytes.now)) parent.old parent.new) }
 {
     let mut past = vec![in alloc; 0i32; PAST_SAMPLES]?;
-    let mut parent = ParentOf::new(alloc, device, tables, racks)?;
     let rest = &bytes[DESCRIPTOR_BYTES..];
-    let count = load_parent(&mut parent, tables, handed, rest, &mut past)?;
+    let count = load_parent(parent, tables, handed, rest, &mut past)?;
     if count < rest.len() {
         return Err(LoadFault::Long);
     }
-    Ok(parent)
+    Ok(())
 }
 
 // That descriptors, groups and counts are in order, where the mix and the device are.

@@ -1,12 +1,11 @@
 use Rattle.pcm_engine.specs.Types.{Device, Held}
-use Rattle.std.proofs.Common.{◌≡◌, ◌*◌, List, [], Option, None, Some, get_or, sym, ap, ◌∙◌, subst, arith}
+use Rattle.std.proofs.Common.{◌≡◌, List, [], Option, None, Some, get_or, sym, ap, ◌∙◌, subst, arith}
 use Rattle.std.proofs.lemmas.List.Elements.{All-map}
 use Rattle.pcm_desk.proofs.Apart.{apart-shut}
 use Rattle.pcm_desk.proofs.Members.{waits-none}
 use Rattle.pcm_sound.proofs.Stories.{get_or-same}
 use Rattle.pcm_desk.specs.Desk.{play_unopened, record_unopened}
 use Rattle.pcm_desk.specs.Device.{IsInLimits, here_at, mixed_for, seen}
-use Rattle.pcm_format.specs.Layouts.{channels_of}
 use Rattle.pcm_sound.specs.Story.{story_at_start}
 use Rattle.pcm_play.specs.declared.channel.PlayChannelOf.{PlayChannelOf}
 use Rattle.pcm_record.specs.declared.channel.RecordChannelOf.{RecordChannelOf}
@@ -50,9 +49,8 @@ invariant_of-result g c =
         };
         life = omega (arith, made.handed);
       };
-      captured_size = c.new-2.ensures.len ∙ c.in_ok-captured.ensures.len ∙ ap (λ n. c.args.device.ring_frames * n) c.channels.ensures
-          ∙ ap (λ (d : Device). d.ring_frames * channels_of d.settings.layout) (sym c.in_ok-parent.ensures.device);
-      answered_size = c.new-3.ensures.len ∙ c.in_ok-answered.ensures.len;
+      captured_size = c.in_ok-captured.ensures.captured;
+      answered_size = c.in_ok-captured.ensures.answered;
     }
 
 pub returns-clause-ready : goal.returns-clause-ready

@@ -1,7 +1,5 @@
-use Rattle.std.proofs.Common.{rules, ◌≡◌, ◌*◌, sym, ap, ◌∙◌, subst}
-use Rattle.pcm_engine.specs.Types.{Device, Filters}
-use Rattle.pcm_format.specs.Layouts.{channels_of}
-use Rattle.pcm_sequence.specs.Fixed.{fixed_len}
+use Rattle.std.proofs.Common.{sym, subst}
+use Rattle.pcm_engine.specs.Types.{Filters}
 use Rattle.pcm_vchan.specs.Parents.{AreServed}
 use Rattle.pcm_engine.proofs.Cloning.{clone-in-order, clone-like, clone-stands}
 use Rattle.pcm_engine.proofs.InOrder.{served}
@@ -18,13 +16,6 @@ invariant_of-result-clause-order g c =
     let engine = c.args.self.now in
     clone-in-order g.B.Feeder.kind g.B.Feeder.kept (device_of engine) engine.parent c.in_ok-parent.parent engine.descriptors c.in_ok-descriptors.descriptors
     (clone-like g.B.Feeder.kind g.B.Feeder.kept (device_of engine) engine.parent c.in_ok-parent.parent c.in_ok-parent.ensures.clone) c.in_ok-descriptors.ensures.held c.in_ok-descriptors.ensures.groups engine.order
-
-pub invariant_of-result-clause-captured_size : goal.invariant_of-result-clause-captured_size
-invariant_of-result-clause-captured_size g c =
-    let engine = c.args.self.now in
-    let count : c.len.result ≡ fixed_len engine.captured = search rules in
-    c.new.ensures.len ∙ c.in_ok-captured.ensures.len ∙ count ∙ engine.captured_size
-    ∙ ap (λ (device : Device). device.ring_frames * channels_of device.settings.layout) (sym c.in_ok-parent.ensures.clone.device)
 
 pub returns-clause-clone : goal.returns-clause-clone
 returns-clause-clone g c =

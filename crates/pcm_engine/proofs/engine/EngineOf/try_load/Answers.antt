@@ -1,7 +1,10 @@
 use Rattle.std.proofs.Common.{sym, subst}
 use Rattle.pcm_engine.specs.Types.{Filters}
 use Rattle.pcm_desk.specs.Device.{IsInLimits, seen}
-use Rattle.pcm_engine.specs.Saved.{IsEngineOf}
+use Rattle.std.specs.Prelude.{IfOk}
+use Rattle.pcm_engine.specs.declared.engine.EngineOf.{EngineOf}
+use Rattle.pcm_engine.specs.Clones.{IsCloneOf}
+use Rattle.pcm_engine.specs.Saved.{HasState, IsEngineOf}
 use Rattle.pcm_engine.proofs.engine.EngineOf.try_load.Goals as goal
 
 pub load-requires : goal.load-requires
@@ -11,5 +14,6 @@ load-requires g c = record {
 }
 
 pub returns-clause-clone : goal.returns-clause-clone
-returns-clause-clone g c = λ engine of has.
-    c.in_ok-engine.ensures.clone engine (subst (λ (filters : Filters). IsEngineOf c.args.self.now.parent.device filters engine) (sym c.in_ok-tables.ensures) of) has
+returns-clause-clone g c =
+    subst (λ (filters : Filters). IfOk c.load.result (λ loaded. (engine : EngineOf _) → IsEngineOf c.args.self.now.parent.device filters engine
+    → HasState g.B.Feeder.kind g.B.Feeder.kept c.args.bytes.now engine → IsCloneOf g.B.Feeder.kind g.B.Feeder.kept engine loaded)) c.in_ok-tables.ensures c.load.ensures.clone
