@@ -1,6 +1,6 @@
 //! What the mixer device holds: it is asked for volumes, and gives gains.
 
-ghost use Rattle.std.specs.Prelude.{◌≡◌, ◌<◌, ◌≤◌, IfSome, IsTrue, is_some};
+ghost use Rattle.std.specs.Prelude.{◌≡◌, ◌<◌, ◌≤◌, All, IfSome, IsTrue, is_some};
 ghost use Rattle.std.specs.List.{list_all};
 ghost use Rattle.pcm_feeder.specs.Limits.{IsGain};
 ghost use Rattle.pcm_oss.specs.Volumes.{is_volume};
@@ -64,14 +64,16 @@ impl MixDev {
 
     /// The volume of all that is mixed.
     pub fn volume(&self) -> u32
-        ensures { result ≡ self.now.master }
+        ensures value { result ≡ self.now.master }
+        ensures valid { IsTrue (is_volume result) }
     {
         self.master
     }
 
     /// The volume of each slot.
     pub fn volumes(&self) -> [u32; SLOTS]
-        ensures { result ≡ self.now.volumes }
+        ensures value { result ≡ self.now.volumes }
+        ensures valid { All (λ volume. IsTrue (is_volume volume)) result }
     {
         self.volumes
     }

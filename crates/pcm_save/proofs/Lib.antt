@@ -3,5 +3,6 @@ mod Loading
 mod Bus
 pub mod Alike
 pub mod AlikeOutputs
-mod Joining
+pub mod Joining
+pub mod Taken
 pub mod AlikeParents

@@ -30,7 +30,7 @@ abbrev pub HasMapBook : List ℕ → MapBook → Type 0
 HasMapBook bytes book = HasRow bytes (map_book_row book)
 
 -- as many bytes stand in an area as the ring of its opening holds
-area-long : {B : Type 0} (channel : MapChannelOf B) → length (area_of channel) ≡ ring_bytes channel.book.opening
+pub area-long : {B : Type 0} (channel : MapChannelOf B) → length (area_of channel) ≡ ring_bytes channel.book.opening
 area-long channel =
     let safe = channel.safe in
     let fragments = safe.fragments in

@@ -30,6 +30,12 @@ pub record CanTellBus {B : Type 0} (kind : B → Kind) (filters : Filters) (hand
   pub fits : HandedFits filters handed parent
   pub room : PAST_SAMPLES ≤ length past
 
+-- What goes to the device can be loaded into another parent of the same device: its bus has made what was handed over.
+pub record CanOutputBeLoaded {B : Type 0} (kept : B → Kept) (filters : Filters) (saved parent : ParentOf B) : Type 0 where
+  pub device : saved.device ≡ parent.device
+  pub bus : HasBus kept (seen filters saved.device) saved
+  pub mixer : FitsMixer saved.mixer
+
 -- So many of the bytes spell what goes to the device. The bus has made what was handed over, and the channels are as they were.
 pub record HasLoadedOutput {B : Type 0} (kind : B → Kind) (kept : B → Kept) (mark : B → ℕ) (filters : Filters) (handed : ℕ)
     (bytes : List ℕ) (count : ℕ) (old new : ParentOf B) : Type 0 where

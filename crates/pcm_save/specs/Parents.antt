@@ -16,12 +16,15 @@ use Rattle.pcm_map.specs.Channels.{IsMapReady}
 use Rattle.pcm_vchan.specs.declared.parent.ParentOf.{ParentOf}
 use Rattle.pcm_vchan.specs.Parents.{map_channels, play_channels, record_channels, HasBus}
 use Rattle.pcm_vchan.specs.Racks.{channel_marks}
+use Rattle.pcm_state.specs.MapRows.{FitsMap}
 use Rattle.pcm_state.specs.MixerRows.{FitsMixer}
+use Rattle.pcm_state.specs.PlayRows.{FitsPlay}
+use Rattle.pcm_state.specs.RecordRows.{FitsRecord}
 use Rattle.pcm_save.specs.Mapping.{map_state}
-use Rattle.pcm_save.specs.Outputs.{output_state, CanTellBus}
+use Rattle.pcm_save.specs.Outputs.{output_state, CanOutputBeLoaded, CanTellBus}
 use Rattle.pcm_save.specs.Playing.{play_state}
 use Rattle.pcm_save.specs.Recording.{record_state}
-use Rattle.pcm_save.specs.States.{devices_of, IsHeldFitted}
+use Rattle.pcm_save.specs.States.{devices_of, CanAllBeLoaded, IsHeldFitted}
 
 -- the bytes of the channels, by slot: those that play, those that record and the mapped ones
 abbrev pub slots_state : {B : Type 0} → (B → Kept) → ParentOf B → List ℕ
@@ -50,6 +53,12 @@ pub record IsFittedParent {B : Type 0} (kept : B → Kept) (parent : ParentOf B)
   pub mapped : All (IsHeldFitted (λ channel. channel.path) (λ channel. is_unheld channel.book.state) kept) (map_channels parent)
   pub bus : AreFitted kept parent.bus.chain
 
+-- the numbers of its channels' books fit their types
+pub record FitsParent {B : Type 0} (parent : ParentOf B) : Type 0 where
+  pub playing : All (λ channel. FitsPlay channel.book) (play_channels parent)
+  pub recording : All (λ channel. FitsRecord channel.book) (record_channels parent)
+  pub mapped : All (λ channel. FitsMap channel.book) (map_channels parent)
+
 -- its channels have the boxes of racks
 pub record HaveAllBoxes {B : Type 0} (kind : B → Kind) (parent : ParentOf B) : Type 0 where
   pub playing : All (λ channel. HasBoxes kind channel.path) (play_channels parent)
@@ -60,6 +69,17 @@ pub record HaveAllBoxes {B : Type 0} (kind : B → Kind) (parent : ParentOf B) :
 pub record CanLoadParent {B : Type 0} (kind : B → Kind) (filters : Filters) (handed : ℕ) (past : List ℤ) (parent : ParentOf B) : Type 0 where
   pub bus : CanTellBus kind filters handed past parent
   pub kinds : HaveAllBoxes kind parent
+
+-- The channels of another parent can be loaded into those of this one,
+pub record CanSlotsBeLoaded {B : Type 0} (kind : B → Kind) (kept : B → Kept) (filters : Filters) (saved parent : ParentOf B) : Type 0 where
+  pub playing : CanAllBeLoaded (λ channel. channel.path) (IsPlayReady kind kept) (λ channel. FitsPlay channel.book) filters (play_channels saved) (play_channels parent)
+  pub recording : CanAllBeLoaded (λ channel. channel.path) (IsRecordReady kind kept) (λ channel. FitsRecord channel.book) filters (record_channels saved) (record_channels parent)
+  pub mapped : CanAllBeLoaded (λ channel. channel.path) (IsMapReady kind kept) (λ channel. FitsMap channel.book) filters (map_channels saved) (map_channels parent)
+
+-- and so can all of it
+pub record CanParentBeLoaded {B : Type 0} (kind : B → Kind) (kept : B → Kept) (filters : Filters) (saved parent : ParentOf B) : Type 0 where
+  pub output : CanOutputBeLoaded kept filters saved parent
+  pub slots : CanSlotsBeLoaded kind kept filters saved parent
 
 -- the channels of a way are ready, of their devices, and have their boxes still
 pub record WayIsLoaded {B C : Type 0} (path : C → PathOf B) (ready : Filters → C → Type 0) (mark : B → ℕ) (filters : Filters) (old new : List C) : Type 0 where

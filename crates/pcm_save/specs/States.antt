@@ -38,6 +38,12 @@ pub record CanLoad {B C : Type 0} (path : C → PathOf B) (kind : B → Kind) (p
   pub kinds : HasBoxes kind (path channel)
   pub room : PAST_SAMPLES ≤ length past
 
+-- Its state can be loaded into another one of the same device: it is ready with these filters, and its numbers fit their types.
+pub record CanBeLoaded {B C : Type 0} (path : C → PathOf B) (ready : Filters → C → Type 0) (fits : C → Type 0) (filters : Filters) (saved channel : C) : Type 0 where
+  pub is_ready : ready filters saved
+  pub fit : fits saved
+  pub device : (path saved).device ≡ (path channel).device
+
 -- So many of the bytes spell what it keeps. It is ready, of its device, and has its boxes still.
 pub record HasLoaded {B C : Type 0} (path : C → PathOf B) (state : C → List ℕ) (ready : Filters → C → Type 0) (mark : B → ℕ) (filters : Filters)
     (bytes : List ℕ) (count : ℕ) (old new : C) : Type 0 where
@@ -61,6 +67,12 @@ devices_of path channels = map (λ channel. (path channel).device) channels
 pub record CanLoadAll {B C : Type 0} (path : C → PathOf B) (kind : B → Kind) (past : List ℤ) (channels : List C) : Type 0 where
   pub kinds : All (λ channel. HasBoxes kind (path channel)) channels
   pub room : PAST_SAMPLES ≤ length past
+
+-- the states of all of them can be loaded into these
+pub record CanAllBeLoaded {B C : Type 0} (path : C → PathOf B) (ready : Filters → C → Type 0) (fits : C → Type 0) (filters : Filters) (saved channels : List C) : Type 0 where
+  pub are_ready : All (ready filters) saved
+  pub fit : All fits saved
+  pub devices : devices_of path saved ≡ devices_of path channels
 
 -- the same of each of a list of them: their bytes stand one after another
 pub record HaveLoaded {B C : Type 0} (path : C → PathOf B) (state : C → List ℕ) (ready : Filters → C → Type 0) (mark : B → ℕ) (filters : Filters)

@@ -1,6 +1,6 @@
 //! Parts of the bytes of a state.
 
-ghost use Rattle.std.specs.Prelude.{◌≡◌, ◌≤◌, ◌+◌, ◌*◌, length, IfOk};
+ghost use Rattle.std.specs.Prelude.{◌≡◌, ◌≤◌, ◌+◌, ◌*◌, length, IfOk, IsOk};
 ghost use Rattle.pcm_save.specs.Parts.{HasPast, HasRest, HasRow, IsPart};
 
 use crate::StateFault;
@@ -8,7 +8,8 @@ use pcm_state::{load_numbers, load_samples};
 
 /// So many bytes from a place on.
 pub fn part(bytes: &[u8], at: usize, size: usize) -> Result<&[u8], StateFault>
-    ensures { IfOk result (λ part. IsPart bytes.now at size part.now) }
+    ensures part { IfOk result (λ part. IsPart bytes.now at size part.now) }
+    ensures taken { at + size ≤ length bytes.now → IsOk result }
 {
     if at <= bytes.len() && size <= bytes.len() - at {
         Ok(&bytes[at..at + size])
@@ -20,7 +21,8 @@ pub fn part(bytes: &[u8], at: usize, size: usize) -> Result<&[u8], StateFault>
 /// Loads the row of numbers at the front.
 pub fn load_row(bytes: &[u8], row: &mut [u64]) -> Result<(), StateFault>
     requires few { length row.old ≤ 256 }
-    ensures { IfOk result (λ _. HasRow bytes.now row.new) }
+    ensures row { IfOk result (λ _. HasRow bytes.now row.new) }
+    ensures taken { 8 * length row.old ≤ length bytes.now → IsOk result }
 {
     let front = part(bytes, 0, 8 * row.len())?;
     load_numbers(front, row);
@@ -31,6 +33,7 @@ pub fn load_row(bytes: &[u8], row: &mut [u64]) -> Result<(), StateFault>
 pub(crate) fn load_past(bytes: &[u8], at: usize, past: &mut [i32]) -> Result<(), StateFault>
     requires few { length past.old ≤ 65536 }
     ensures past { IfOk result (λ _. HasPast bytes.now at past.new) }
+    ensures taken { at + 4 * length past.old ≤ length bytes.now → IsOk result }
     ensures len { length past.new ≡ length past.old }
 {
     let part = part(bytes, at, 4 * past.len())?;
@@ -47,6 +50,7 @@ pub(crate) fn load_rest<'a>(
 ) -> Result<&'a [u8], StateFault>
     requires few { length past.old ≤ 65536 }
     ensures rest { IfOk result (λ waiting. HasRest bytes.now at size waiting.now past.new) }
+    ensures taken { at + size + 4 * length past.old ≤ length bytes.now → IsOk result }
     ensures len { length past.new ≡ length past.old }
 {
     let waiting = part(bytes, at, size)?;

@@ -1,9 +1,11 @@
 //! The state of a mapped channel: its book, what stands in its area and, unless it is free, the samples of the past.
 
-ghost use Rattle.std.specs.Prelude.{◌≡◌, ◌≤◌, length, take, IfOk};
+ghost use Rattle.std.specs.Prelude.{◌≡◌, ◌≤◌, length, take, IfOk, IsOk};
+ghost use Rattle.pcm_desk.specs.declared.map_book.MapBook.{MapBook};
 ghost use Rattle.pcm_oss.specs.Fragments.{AreFragments};
 ghost use Rattle.pcm_desk.specs.Openings.{ring_bytes};
 ghost use Rattle.pcm_map.specs.Channels.{IsMapReady};
+ghost use Rattle.pcm_state.specs.MapRows.{FitsMap};
 ghost use Rattle.pcm_save.specs.Mapping.{map-state-known, map_state, HasMapBook};
 
 use crate::front::{load_rest, load_row};
@@ -24,6 +26,8 @@ impl<B: Feeder> Saved<B> for MapChannelOf<B> {
     ghost state = { map_state B.kept };
 
     ghost ready = { IsMapReady B.kind B.kept };
+
+    ghost fits = { λ channel. FitsMap channel.book };
 
     ghost known = { map-state-known B.kind B.kept };
 
@@ -73,7 +77,8 @@ fn put_front(area: &mut [u8], bytes: &[u8])
 
 // The book at the front.
 fn book_in(bytes: &[u8]) -> Result<MapBook, StateFault>
-    ensures { IfOk result (HasMapBook bytes.now) }
+    ensures book { IfOk result (HasMapBook bytes.now) }
+    ensures taken { (book : MapBook) → FitsMap book → HasMapBook bytes.now book → IsOk result }
 {
     let mut row = [0; MAP_NUMBERS];
     load_row(bytes, &mut row)?;

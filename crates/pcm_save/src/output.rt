@@ -1,9 +1,10 @@
 //! The state of what goes to the device: the mixer device, the device's ring, and what the bus keeps of the past.
 
-ghost use Rattle.std.specs.Prelude.{◌≡◌, ◌<◌, ◌^◌, length, IfOk};
+ghost use Rattle.std.specs.Prelude.{◌≡◌, ◌<◌, ◌^◌, ◌++◌, ℕ, List, drop, length, IfOk, IsOkAnd};
 ghost use Rattle.pcm_chain.specs.Chains.{AreFitted};
 ghost use Rattle.pcm_state.specs.MixerRows.{FitsMixer};
-ghost use Rattle.pcm_save.specs.Outputs.{output_state, CanTellBus, HasLoadedOutput};
+ghost use Rattle.pcm_vchan.specs.declared.parent.ParentOf.{ParentOf};
+ghost use Rattle.pcm_save.specs.Outputs.{output_state, CanOutputBeLoaded, CanTellBus, HasLoadedOutput};
 
 use crate::StateFault;
 use crate::front::{load_past, load_row, part};
@@ -50,7 +51,9 @@ pub(crate) fn load_output<B: Feeder>(
     past: &mut [i32],
 ) -> Result<usize, StateFault>
     requires { CanTellBus B.kind tables.now handed past.old parent.old }
-    ensures { IfOk result (λ count. HasLoadedOutput B.kind B.kept B.mark tables.now handed bytes.now count parent.old parent.new) }
+    ensures loaded { IfOk result (λ count. HasLoadedOutput B.kind B.kept B.mark tables.now handed bytes.now count parent.old parent.new) }
+    ensures taken { (saved : ParentOf B) (rest : List ℕ) → CanOutputBeLoaded B.kept tables.now saved parent.old
+        → bytes.now ≡ output_state B.kept saved ++ rest → IsOkAnd result (λ count. drop count bytes.now ≡ rest) }
 {
     let mut row = [0; MIXER_NUMBERS];
     load_row(bytes, &mut row)?;

@@ -1,8 +1,9 @@
 //! The state of a parent: what goes to the device, and the channels of all slots.
 
-ghost use Rattle.std.specs.Prelude.{◌≡◌, ◌<◌, ◌≤◌, ◌^◌, length, IfOk};
+ghost use Rattle.std.specs.Prelude.{◌≡◌, ◌<◌, ◌≤◌, ◌^◌, ◌++◌, ℕ, List, drop, length, IfOk, IsOkAnd};
 ghost use Rattle.pcm_chain.specs.declared.past.TheConstants.{PAST_SAMPLES};
-ghost use Rattle.pcm_save.specs.Parents.{parent_state, CanLoadParent, HasLoadedParent, HasLoadedSlots, HaveAllBoxes, IsFittedParent, IsWholeParent};
+ghost use Rattle.pcm_vchan.specs.declared.parent.ParentOf.{ParentOf};
+ghost use Rattle.pcm_save.specs.Parents.{parent_state, slots_state, CanLoadParent, CanParentBeLoaded, CanSlotsBeLoaded, FitsParent, HasLoadedParent, HasLoadedSlots, HaveAllBoxes, IsFittedParent, IsWholeParent};
 
 use crate::StateFault;
 use crate::output::{load_output, output_size, save_output};
@@ -29,6 +30,7 @@ pub fn save_parent<B: Feeder>(parent: &ParentOf<B>, out: &mut [u8])
     requires size { length out.old ≡ length (parent_state B.kept parent.now) }
     ensures state { out.new ≡ parent_state B.kept parent.now }
     ensures whole { IsWholeParent parent.now }
+    ensures fits { FitsParent parent.now }
 {
     let (output, slots) = out.split_at_mut(output_size(parent));
     let (playing, rest) = slots.split_at_mut(size_slots(&parent.channels));
@@ -49,7 +51,10 @@ pub fn load_parent<B: Feeder>(
     past: &mut [i32],
 ) -> Result<usize, StateFault>
     requires { CanLoadParent B.kind tables.now handed past.old parent.old }
-    ensures { IfOk result (λ count. HasLoadedParent B.kind B.kept B.mark tables.now handed bytes.now count parent.old parent.new) }
+    ensures loaded { IfOk result (λ count. HasLoadedParent B.kind B.kept B.mark tables.now handed bytes.now count parent.old parent.new) }
+    // What was saved of a parent of its device is taken, and what stands behind it is left.
+    ensures taken { (saved : ParentOf B) (rest : List ℕ) → CanParentBeLoaded B.kind B.kept tables.now saved parent.old
+        → bytes.now ≡ parent_state B.kept saved ++ rest → IsOkAnd result (λ count. drop count bytes.now ≡ rest) }
 {
     let output = load_output(parent, handed, tables, bytes, past)?;
     let slots = load_channels(parent, tables, &bytes[output..], past)?;
@@ -65,7 +70,9 @@ fn load_channels<B: Feeder>(
 ) -> Result<usize, StateFault>
     requires kinds { HaveAllBoxes B.kind parent.old }
     requires room { PAST_SAMPLES ≤ length past.old }
-    ensures { IfOk result (λ count. HasLoadedSlots B.kind B.kept B.mark tables.now bytes.now count parent.old parent.new) }
+    ensures loaded { IfOk result (λ count. HasLoadedSlots B.kind B.kept B.mark tables.now bytes.now count parent.old parent.new) }
+    ensures taken { (saved : ParentOf B) (rest : List ℕ) → CanSlotsBeLoaded B.kind B.kept tables.now saved parent.old
+        → bytes.now ≡ slots_state B.kept saved ++ rest → IsOkAnd result (λ count. drop count bytes.now ≡ rest) }
 {
     let playing = load_slots(&mut parent.channels, tables, bytes, past)?;
     let rest = &bytes[playing..];

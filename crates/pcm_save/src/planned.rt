@@ -1,6 +1,7 @@
 //! The plan of an opening that came from outside.
 
-ghost use Rattle.std.specs.Prelude.{◌≡◌, IfOk};
+ghost use Rattle.std.specs.Prelude.{◌≡◌, IfOk, IsOk};
+ghost use Rattle.pcm_feeder.specs.Limits.{IsRate};
 ghost use Rattle.pcm_desk.specs.Device.{HasRates, seen};
 ghost use Rattle.pcm_path.specs.Ways.{plan_between};
 
@@ -20,7 +21,8 @@ pub(crate) fn planned(
     opening: &Opening,
 ) -> Result<Plan, StateFault>
     requires { HasRates device.now }
-    ensures { IfOk result (λ plan. plan ≡ plan_between way (seen tables.now device.now) opening.now.settings) }
+    ensures plan { IfOk result (λ plan. plan ≡ plan_between way (seen tables.now device.now) opening.now.settings) }
+    ensures taken { IsRate opening.now.settings.rate → IsOk result }
 {
     if is_rate(opening.settings.rate) {
         Ok(plan_of(way, tables, device, &opening.settings))

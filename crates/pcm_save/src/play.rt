@@ -1,7 +1,9 @@
 //! The state of a channel that plays: its book, the bytes that wait and, unless it is free, the samples of the past.
 
-ghost use Rattle.std.specs.Prelude.{IfOk};
+ghost use Rattle.std.specs.Prelude.{IfOk, IsOk};
+ghost use Rattle.pcm_desk.specs.declared.play_book.PlayBook.{PlayBook};
 ghost use Rattle.pcm_play.specs.Channels.{IsPlayReady};
+ghost use Rattle.pcm_state.specs.PlayRows.{FitsPlay};
 ghost use Rattle.pcm_save.specs.Playing.{play-state-known, play_state, HasPlayBook};
 
 use crate::front::{load_rest, load_row};
@@ -23,6 +25,8 @@ impl<B: Feeder> Saved<B> for PlayChannelOf<B> {
     ghost state = { play_state B.kept };
 
     ghost ready = { IsPlayReady B.kind B.kept };
+
+    ghost fits = { λ channel. FitsPlay channel.book };
 
     ghost known = { play-state-known B.kind B.kept };
 
@@ -52,7 +56,8 @@ impl<B: Feeder> Saved<B> for PlayChannelOf<B> {
 
 // The book at the front.
 fn book_in(bytes: &[u8]) -> Result<PlayBook, StateFault>
-    ensures { IfOk result (HasPlayBook bytes.now) }
+    ensures book { IfOk result (HasPlayBook bytes.now) }
+    ensures taken { (book : PlayBook) → FitsPlay book → HasPlayBook bytes.now book → IsOk result }
 {
     let mut row = [0; PLAY_NUMBERS];
     load_row(bytes, &mut row)?;

@@ -1,7 +1,9 @@
 //! The state of a channel that records: its book, the bytes that wait and, unless it is free, the samples of the past.
 
-ghost use Rattle.std.specs.Prelude.{IfOk};
+ghost use Rattle.std.specs.Prelude.{IfOk, IsOk};
+ghost use Rattle.pcm_desk.specs.declared.record_book.RecordBook.{RecordBook};
 ghost use Rattle.pcm_record.specs.Channels.{IsRecordReady};
+ghost use Rattle.pcm_state.specs.RecordRows.{FitsRecord};
 ghost use Rattle.pcm_save.specs.Recording.{record-state-known, record_state, HasRecordBook};
 
 use crate::front::{load_rest, load_row};
@@ -23,6 +25,8 @@ impl<B: Feeder> Saved<B> for RecordChannelOf<B> {
     ghost state = { record_state B.kept };
 
     ghost ready = { IsRecordReady B.kind B.kept };
+
+    ghost fits = { λ channel. FitsRecord channel.book };
 
     ghost known = { record-state-known B.kind B.kept };
 
@@ -52,7 +56,8 @@ impl<B: Feeder> Saved<B> for RecordChannelOf<B> {
 
 // The book at the front.
 fn book_in(bytes: &[u8]) -> Result<RecordBook, StateFault>
-    ensures { IfOk result (HasRecordBook bytes.now) }
+    ensures book { IfOk result (HasRecordBook bytes.now) }
+    ensures taken { (book : RecordBook) → FitsRecord book → HasRecordBook bytes.now book → IsOk result }
 {
     let mut row = [0; RECORD_NUMBERS];
     load_row(bytes, &mut row)?;

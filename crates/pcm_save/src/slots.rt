@@ -1,10 +1,10 @@
 //! What the channels of a way keep, in the order of their slots.
 
-ghost use Rattle.std.specs.Prelude.{◌≡◌, ◌≤◌, ◌*◌, length, All, IfOk};
+ghost use Rattle.std.specs.Prelude.{◌≡◌, ◌≤◌, ◌*◌, ◌++◌, ℕ, List, drop, length, All, IfOk, IsOkAnd};
 ghost use Rattle.std.specs.List.{flat_map};
 ghost use Rattle.pcm_oss.specs.declared.event.TheConstants.{SLOTS};
 ghost use Rattle.pcm_sequence.specs.Fixed.{fixed_items, fixed_len};
-ghost use Rattle.pcm_save.specs.States.{AreAsMany, CanLoadAll, HaveLoaded, IsHeldFitted};
+ghost use Rattle.pcm_save.specs.States.{AreAsMany, CanAllBeLoaded, CanLoadAll, HaveLoaded, IsHeldFitted};
 ghost use Rattle.pcm_save.specs.declared.saved.TheConstants.{STATE_MOST};
 
 use crate::{Saved, StateFault};
@@ -28,7 +28,8 @@ fn size_all<B: Feeder, C: Saved<B>>(channels: &[C]) -> usize
 fn save_all<B: Feeder, C: Saved<B>>(channels: &[C], out: &mut [u8])
     requires fitted { All (IsHeldFitted C.path C.is_free B.kept) channels.now }
     requires size { length out.old ≡ length (flat_map C.state channels.now) }
-    ensures { out.new ≡ flat_map C.state channels.now }
+    ensures saved { out.new ≡ flat_map C.state channels.now }
+    ensures fit { All C.fits channels.now }
 {
     if channels.is_empty() {
         return;
@@ -46,7 +47,9 @@ fn load_all<B: Feeder, C: Saved<B>>(
     past: &mut [i32],
 ) -> Result<usize, StateFault>
     requires { CanLoadAll C.path B.kind past.old channels.old }
-    ensures { IfOk result (λ count. HaveLoaded C.path C.state C.ready B.mark tables.now bytes.now count channels.old channels.new) }
+    ensures loaded { IfOk result (λ count. HaveLoaded C.path C.state C.ready B.mark tables.now bytes.now count channels.old channels.new) }
+    ensures taken { (saved : List C) (rest : List ℕ) → CanAllBeLoaded C.path C.ready C.fits tables.now saved channels.old
+        → bytes.now ≡ flat_map C.state saved ++ rest → IsOkAnd result (λ count. drop count bytes.now ≡ rest) }
 {
     let mut at = 0;
     for slot in 0..channels.len() {
@@ -71,6 +74,7 @@ pub fn save_slots<B: Feeder, C: Saved<B>>(channels: &Fixed<C>, out: &mut [u8])
     requires fitted { All (IsHeldFitted C.path C.is_free B.kept) (fixed_items channels.now) }
     requires size { length out.old ≡ length (flat_map C.state (fixed_items channels.now)) }
     ensures saved { out.new ≡ flat_map C.state (fixed_items channels.now) }
+    ensures fit { All C.fits (fixed_items channels.now) }
     ensures count { length (fixed_items channels.now) ≡ fixed_len channels.now }
 {
     save_all(channels, out);
@@ -88,6 +92,8 @@ pub fn load_slots<B: Feeder, C: Saved<B>>(
     ensures count { length (fixed_items channels.new) ≡ fixed_len channels.new }
     ensures loaded { IfOk result (λ count. HaveLoaded C.path C.state C.ready B.mark tables.now bytes.now count
         (fixed_items channels.old) (fixed_items channels.new)) }
+    ensures taken { (saved : List C) (rest : List ℕ) → CanAllBeLoaded C.path C.ready C.fits tables.now saved (fixed_items channels.old)
+        → bytes.now ≡ flat_map C.state saved ++ rest → IsOkAnd result (λ count. drop count bytes.now ≡ rest) }
 {
     load_all(channels, tables, bytes, past)
 }

@@ -1,5 +1,5 @@
 -- The row of a mixer: its volumes have 32 bits, and it is its parts.
-use Rattle.std.proofs.Common.{◌≡◌, ℕ, true, Option, None, Some, IfSome, List, [], ◌∷◌, ◌++◌, All, length, get_or, take, drop, ap, arith}
+use Rattle.std.proofs.Common.{◌≡◌, ℕ, true, Option, None, Some, IfSome, List, [], ◌∷◌, ◌++◌, All, length, get_or, take, drop, refl, sym, ap, subst, arith}
 use Rattle.std.specs.Prelude.{is_some}
 use Rattle.std.specs.List.{list_all}
 use Rattle.std.proofs.lemmas.Bool.{and_parts}
@@ -27,3 +27,8 @@ parts-joined (master ∷ rest) long = ap (λ l. master ∷ l) (halves-joined 16 
 pub some-is : {X : Type 0} (found : Option X) (x : X) → is_some found ≡ true → IfSome found (λ it. it ≡ x) → found ≡ Some x
 some-is None x some same = cc
 some-is (Some it) x some same = ap (λ y. Some y) same
+
+-- what holds of the one that is there, where one is
+pub from-some : {X : Type 0} (P : X → Type 0) (found : Option X) (x : X) → IfSome found (λ it. it ≡ x) → (is_some found ≡ true → P x) → IfSome found P
+from-some P None x same holds = tt
+from-some P (Some it) x same holds = subst P (sym same) (holds refl)

@@ -1,6 +1,6 @@
 -- What the mixer device holds, as a row of numbers.
-use Rattle.std.specs.Prelude.{◌≡◌, ℕ, List, ◌∷◌, ◌++◌, length, map}
-use Rattle.pcm_mixdev.specs.Mixers.{Levels}
+use Rattle.std.specs.Prelude.{◌≡◌, ℕ, List, ◌∷◌, ◌++◌, IsTrue, length, map}
+use Rattle.pcm_mixdev.specs.Mixers.{are_volumes, Levels}
 use Rattle.pcm_oss.specs.declared.event.TheConstants.{SLOTS}
 use Rattle.pcm_state.specs.OpeningRows.{flag}
 
@@ -12,3 +12,4 @@ mixer_row mixer = mixer.master ∷ mixer.volumes ++ map flag mixer.muted
 pub record FitsMixer (mixer : Levels) : Type 0 where
   pub volumes : length mixer.volumes ≡ SLOTS
   pub muted : length mixer.muted ≡ SLOTS
+  pub valid : IsTrue (are_volumes mixer.master mixer.volumes)

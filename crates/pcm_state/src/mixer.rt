@@ -1,7 +1,7 @@
 //! The row of the mixer device.
 
-ghost use Rattle.std.specs.Prelude.{◌≡◌, IfSome, IsTrue, Some};
-ghost use Rattle.pcm_mixdev.specs.Mixers.{are_volumes, Levels};
+ghost use Rattle.std.specs.Prelude.{◌≡◌, IfSome, Some};
+ghost use Rattle.pcm_mixdev.specs.Mixers.{Levels};
 ghost use Rattle.pcm_state.specs.MixerRows.{mixer_row, FitsMixer};
 
 use crate::codes::word;
@@ -28,8 +28,7 @@ pub fn mixer_row(mixer: &MixDev) -> [u64; MIXER_NUMBERS]
 pub fn mixer_from_row(row: &[u64; MIXER_NUMBERS]) -> Option<MixDev>
     ensures row { IfSome result (λ mixer. mixer_row mixer ≡ row.now) }
     ensures fits { IfSome result FitsMixer }
-    ensures some { (mixer : Levels) → FitsMixer mixer → IsTrue (are_volumes mixer.master mixer.volumes)
-        → mixer_row mixer ≡ row.now → result ≡ Some mixer }
+    ensures some { (mixer : Levels) → FitsMixer mixer → mixer_row mixer ≡ row.now → result ≡ Some mixer }
 {
     let volumes = words(&row[1..1 + SLOTS])?;
     let muted = flags(&row[1 + SLOTS..])?;

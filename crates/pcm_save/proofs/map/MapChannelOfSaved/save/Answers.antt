@@ -8,8 +8,8 @@ use Rattle.pcm_save.specs.Parts.{past_bytes}
 use Rattle.pcm_save.proofs.Loading.{join}
 use Rattle.pcm_save.proofs.map.MapChannelOfSaved.save.Goals as goal
 
-pub returns : goal.returns
-returns g c =
+pub returns-clause-saved : goal.returns-clause-saved
+returns-clause-saved g c =
     let kept = g.B.Feeder.kept in
     let channel = c.args.self.now in
     let area : c.copy_from_slice.new.self ≡ area_of channel =

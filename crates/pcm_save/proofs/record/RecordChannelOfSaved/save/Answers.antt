@@ -4,8 +4,8 @@ use Rattle.pcm_state.specs.RecordRows.{record_book_row}
 use Rattle.pcm_save.specs.Parts.{path_bytes}
 use Rattle.pcm_save.proofs.record.RecordChannelOfSaved.save.Goals as goal
 
-pub returns : goal.returns
-returns g c =
+pub returns-clause-saved : goal.returns-clause-saved
+returns-clause-saved g c =
     let kept = g.B.Feeder.kept in
     let channel = c.args.self.now in
     ap (λ front. front ++ c.put_path.new.out) (c.put_numbers.ensures.spelled ∙ ap spelled_numbers c.record_row-row.ensures.row)

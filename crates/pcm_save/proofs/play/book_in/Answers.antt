@@ -1,0 +1,10 @@
+use Rattle.std.proofs.Common.{rules, ◌≡◌, length, sym}
+use Rattle.pcm_state.specs.PlayRows.{play_book_row}
+use Rattle.pcm_save.proofs.Taken.{found-ok, rows-same}
+use Rattle.pcm_save.proofs.play.book_in.Goals as goal
+
+pub returns-clause-taken : goal.returns-clause-taken
+returns-clause-taken c = λ book fits is.
+    let many : length c.load_row.new.row ≡ 15 = search rules in
+    let same = rows-same c.args.bytes.now c.load_row.new.row (play_book_row book) (sym many) c.in_ok-load_row.ensures.row is in
+    found-ok c.play_from_row.result book _ c.ok_or.result c.ok_or.ensures.value (c.play_from_row.ensures.some book fits same)
