@@ -82,7 +82,7 @@ extern "C" {
 /* The engine doesn't hand over as many frames any more: see dsp_engine_frames_left. */
 #define DSP_WORN_OUT (-11)
 
-/* Why a state isn't loaded. Only dsp_engine_load answers these. */
+/* Why a state isn't loaded. Only dsp_engine_load answers these, and never of the bytes that dsp_engine_save wrote of the same device. */
 
 /* The bytes don't begin as a state of this version. */
 #define DSP_NOT_A_STATE (-12)

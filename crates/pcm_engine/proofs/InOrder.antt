@@ -8,9 +8,9 @@ use Rattle.pcm_oss.proofs.Limits.{usual-fragments}
 use Rattle.pcm_engine.specs.Types.{Device, Filters, Here, Kept, Kind, MapBook, PlayBook, PlayState, Rate, RecordBook}
 use Rattle.pcm_feeder.specs.Limits.{IsRate}
 use Rattle.pcm_desk.specs.Here.{IsHere}
-use Rattle.pcm_desk.specs.Device.{DeviceSeen, IsDevice, IsInLimits, passed_for, ring_frames, seen, mix_frames, unfiltered, parent_plan, parent_rate, play_plan_between}
+use Rattle.pcm_desk.specs.Device.{DeviceSeen, IsDevice, IsInLimits, here_at, passed_for, ring_frames, seen, mix_frames, unfiltered, parent_plan, parent_rate, play_plan_between}
 use Rattle.pcm_desk.specs.Channels.{map_rate_at, play_rate_at, record_rate_at}
-use Rattle.pcm_desk.specs.Desk.{desk_here, map_unopened, play_at, play_unopened, record_unopened}
+use Rattle.pcm_desk.specs.Desk.{Desk, map_unopened, play_at, play_unopened, record_unopened}
 use Rattle.pcm_desk.specs.Own.{MembersWait}
 use Rattle.pcm_desk.specs.MapBooks.{taken_of}
 use Rattle.pcm_desk.specs.PlaySafe.{PlayIsHere, PlayIsSafe, IsPlayInOrder}
@@ -27,9 +27,12 @@ use Rattle.pcm_record.specs.declared.channel.RecordChannelOf.{RecordChannelOf}
 use Rattle.pcm_record.specs.Channels.{IsRecordReady}
 use Rattle.pcm_map.specs.declared.channel.MapChannelOf.{MapChannelOf}
 use Rattle.pcm_map.specs.Channels.{IsMapReady, CountsFit, IsMapServed}
-use Rattle.pcm_bus.specs.Slots.{play_books_of}
+use Rattle.pcm_bus.specs.Slots.{PlayAreOf, play_books_of}
 use Rattle.pcm_vchan.specs.Parents.{mixed_in, AreDue, AreServed, HasBus, here_of, map_channels, play_channels, record_channels}
+use Rattle.pcm_engine.specs.declared.descriptors.Descriptors.{Descriptors}
 use Rattle.pcm_engine.specs.declared.engine.EngineOf.{EngineOf}
+use Rattle.pcm_engine.specs.Desks.{desk_with}
+use Rattle.pcm_engine.specs.Invariants.{PartsInOrder}
 use Rattle.pcm_engine.specs.Life.{MapKeepsPace, PlayKeepsPace, RecordKeepsPace, bytes_for_frame}
 use Rattle.pcm_engine.specs.Answered.{CanBeAsked}
 use Rattle.pcm_record.proofs.Capturing.{capture-fits}
@@ -122,8 +125,8 @@ books-rates {B} engine d slot =
     (λ at other there. (let channel : PlayChannelOf B = get_or (play_channels engine.parent) at other in channel.serves.rate)) d.mix_rate
 
 -- where the mix and the device are
-pub here-seen : {B : Type 0} (kept : B → Kept) (engine : EngineOf B) → HasBus kept (device_of engine) engine.parent → here_of engine.parent ≡ desk_here (device_of engine) (desk_of engine)
-here-seen kept engine has = ap (λ (mixed : ℕ). record { mixed = mixed; passed = passed_for (device_of engine) engine.parent.handed }) has.level
+pub here-seen : {B : Type 0} (kept : B → Kept) (filters : Filters) (parent : ParentOf B) → HasBus kept (seen filters parent.device) parent → here_of parent ≡ here_at (seen filters parent.device) parent.handed
+here-seen kept filters parent has = ap (λ (mixed : ℕ). record { mixed = mixed; passed = passed_for (seen filters parent.device) parent.handed }) has.level
 
 -- what an event relies on, so that no count runs ahead
 pub relies : {B : Type 0} (kind : B → Kind) (kept : B → Kept) (engine : EngineOf B) → AreReady kind kept engine → ReliesOn (device_of engine) (desk_of engine)
@@ -137,19 +140,20 @@ few-mixed kept engine has = omega (arith, mixed-few kept (device_of engine) engi
 pub here-within : {B : Type 0} (kept : B → Kept) (engine : EngineOf B) → IsInLimits (device_of engine) → HasBus kept (device_of engine) engine.parent → IsHere (here_of engine.parent)
 here-within kept engine limits has =
     let level = has.level in
-    subst IsHere (sym (here-seen kept engine has)) (here-is (device_of engine) engine.parent.handed limits (omega (arith, level, few-mixed kept engine has)))
+    subst IsHere (sym (here-seen kept engine.tables engine.parent has)) (here-is (device_of engine) engine.parent.handed limits (omega (arith, level, few-mixed kept engine has)))
 
 -- and each channel is there
-pub channels-here : {B : Type 0} (kept : B → Kept) (engine : EngineOf B) → HasBus kept (device_of engine) engine.parent → BooksAreHere (device_of engine) (desk_of engine)
-    → All (IsPlayHere engine.tables (here_of engine.parent)) (play_channels engine.parent)
-channels-here {B} kept engine has places slot other there =
-    let device : DeviceSeen = device_of engine in
-    let channel : PlayChannelOf B = get_or (play_channels engine.parent) slot other in
-    let At : PlayBook → Type 0 = λ book. PlayIsHere (play_rate_at device book) (here_of engine.parent) book in
+pub channels-here : {B : Type 0} (kept : B → Kept) (filters : Filters) (parent : ParentOf B) (descriptors : Descriptors) → PlayAreOf parent.device (play_channels parent)
+    → HasBus kept (seen filters parent.device) parent → BooksAreHere (seen filters parent.device) (desk_with parent descriptors) → All (IsPlayHere filters (here_of parent)) (play_channels parent)
+channels-here {B} kept filters parent descriptors own has places slot other there =
+    let device : DeviceSeen = seen filters parent.device in
+    let desk : Desk = desk_with parent descriptors in
+    let channel : PlayChannelOf B = get_or (play_channels parent) slot other in
+    let At : PlayBook → Type 0 = λ book. PlayIsHere (play_rate_at device book) (here_of parent) book in
     let book : At channel.book =
-    subst At (get_or-map (λ (c : PlayChannelOf B). c.book) (play_channels engine.parent) slot other (play_unopened device) there)
-    (subst (λ (here : Here). PlayIsHere (play_rate_at device (play_at device (desk_of engine) slot)) here (play_at device (desk_of engine) slot)) (sym (here-seen kept engine has)) (places slot)) in
-    subst (λ (d : Device). PlayIsHere (play_rate_at (seen engine.tables d) channel.book) (here_of engine.parent) channel.book) (sym (engine.order.own.playing slot other there)) book
+    subst At (get_or-map (λ (c : PlayChannelOf B). c.book) (play_channels parent) slot other (play_unopened device) there)
+    (subst (λ (here : Here). PlayIsHere (play_rate_at device (play_at device desk slot)) here (play_at device desk slot)) (sym (here-seen kept filters parent has)) (places slot)) in
+    subst (λ (d : Device). PlayIsHere (play_rate_at (seen filters d) channel.book) (here_of parent) channel.book) (sym (own slot other there)) book
 
 -- books that nobody has opened are anywhere
 pub books-start : {B : Type 0} (filters : Filters) (device : Device) (channels : List (PlayChannelOf B)) (slot : ℕ) (here : Here) → let none : PlayBook = play_unopened (seen filters device) in
@@ -216,31 +220,35 @@ book_at : {X Book : Type 0} (book : X → Book) (holds : Book → Type 0) (chann
 book_at book holds channels slot other there each = subst holds (get_or-map book channels slot other (book other) there) (each slot (book other) (omega (arith, there, length-map channels book)))
 
 -- no channel runs ahead of what was mixed and given to the device
-pub play-pace : {B : Type 0} (engine : EngineOf B) (slot : ℕ) (other : PlayChannelOf B) → slot < length (play_channels engine.parent) → PlayKeepsPace engine.parent.mixed (get_or (play_channels engine.parent) slot other).book
-play-pace {B} engine slot other there = book_at (λ (channel : PlayChannelOf B). channel.book) (PlayKeepsPace engine.parent.mixed) (play_channels engine.parent) slot other there engine.order.pace.playing
+pub play-pace : {B : Type 0} {parent : ParentOf B} {descriptors : Descriptors} → PartsInOrder parent descriptors → All (λ (channel : PlayChannelOf B). PlayKeepsPace parent.mixed channel.book) (play_channels parent)
+play-pace {B} {parent} order slot other there = book_at (λ (channel : PlayChannelOf B). channel.book) (PlayKeepsPace parent.mixed) (play_channels parent) slot other there order.pace.playing
 
-pub record-pace : {B : Type 0} (engine : EngineOf B) (slot : ℕ) (other : RecordChannelOf B) → slot < length (record_channels engine.parent) → RecordKeepsPace engine.parent.handed (get_or (record_channels engine.parent) slot other).book
-record-pace {B} engine slot other there = book_at (λ (channel : RecordChannelOf B). channel.book) (RecordKeepsPace engine.parent.handed) (record_channels engine.parent) slot other there engine.order.pace.recording
+pub record-pace : {B : Type 0} {parent : ParentOf B} {descriptors : Descriptors} → PartsInOrder parent descriptors → All (λ (channel : RecordChannelOf B). RecordKeepsPace parent.handed channel.book) (record_channels parent)
+record-pace {B} {parent} order slot other there = book_at (λ (channel : RecordChannelOf B). channel.book) (RecordKeepsPace parent.handed) (record_channels parent) slot other there order.pace.recording
 
-map-pace : {B : Type 0} (engine : EngineOf B) (slot : ℕ) (other : MapChannelOf B) → slot < length (map_channels engine.parent) → MapKeepsPace engine.parent.mixed (get_or (map_channels engine.parent) slot other).book
-map-pace {B} engine slot other there = book_at (λ (channel : MapChannelOf B). channel.book) (MapKeepsPace engine.parent.mixed) (map_channels engine.parent) slot other there engine.order.pace.mapped
+pub map-pace : {B : Type 0} {parent : ParentOf B} {descriptors : Descriptors} → PartsInOrder parent descriptors → All (λ (channel : MapChannelOf B). MapKeepsPace parent.mixed channel.book) (map_channels parent)
+map-pace {B} {parent} order slot other there = book_at (λ (channel : MapChannelOf B). channel.book) (MapKeepsPace parent.mixed) (map_channels parent) slot other there order.pace.mapped
 
 -- the bytes that one counts are few
+pub parent-counted : {B : Type 0} (kind : B → Kind) (kept : B → Kept) (filters : Filters) (parent : ParentOf B) (descriptors : Descriptors) → AreServed kind kept filters parent
+    → HasBus kept (seen filters parent.device) parent → PartsInOrder parent descriptors → All (λ (channel : PlayChannelOf B). channel.book.done + channel.book.written < 2 ^ 63) (play_channels parent)
+parent-counted {B} kind kept filters parent descriptors ready has order slot other there =
+    let channel : PlayChannelOf B = get_or (play_channels parent) slot other in
+    let near = near-rate (seen filters channel.path.device) channel.book.opening.settings
+    (subst (λ (d : Device). IsDevice (seen filters d)) (sym (ready.own slot other there)) has.planned.limits) channel.serves.rate in
+    let safe = safe-served filters channel (ready.ready slot other there).planned in
+    omega (arith, bytes-few _ parent.mixed channel.book near safe (play-pace order slot other there), mixed-few kept (seen filters parent.device) parent has order.life)
+
 pub bytes-counted : {B : Type 0} {kind : B → Kind} {kept : B → Kept} {engine : EngineOf B} → AreReady kind kept engine
     → All (λ (channel : PlayChannelOf B). channel.book.done + channel.book.written < 2 ^ 63) (play_channels engine.parent)
-bytes-counted {B} {kind} {kept} {engine} ready slot other there =
-    let channel : PlayChannelOf B = get_or (play_channels engine.parent) slot other in
-    let near = near-rate (seen engine.tables channel.path.device) channel.book.opening.settings
-    (subst (λ (d : Device). IsDevice (seen engine.tables d)) (sym (engine.order.own.playing slot other there)) ready.limits.device_is) channel.serves.rate in
-    let safe = safe-served engine.tables channel (ready.playing slot other there).planned in
-    omega (arith, bytes-few _ engine.parent.mixed channel.book near safe (play-pace engine slot other there), mixed-few kept (device_of engine) engine.parent ready.bus engine.order.life)
+bytes-counted {B} {kind} {kept} {engine} ready = parent-counted kind kept engine.tables engine.parent engine.descriptors (served ready) ready.bus engine.order
 
 -- and what a mapped one has taken fits
 pub maps-taken : {B : Type 0} (kind : B → Kind) (kept : B → Kept) (engine : EngineOf B) → AreReady kind kept engine
     → All (λ (channel : MapChannelOf B). taken_of channel.book < 2 ^ 64) (map_channels engine.parent)
 maps-taken kind kept engine ready slot other there =
     let channel = get_or (map_channels engine.parent) slot other in
-    let given = (map-pace engine slot other there).given in
+    let given = (map-pace engine.order slot other there).given in
     let device = subst (λ (d : Device). IsDevice (seen engine.tables d)) (sym (engine.order.own.mapped slot other there)) ready.bus.planned.limits in
     taken-few engine.tables channel device (ready.mapped slot other there).planned (omega (arith, given, few-mixed kept engine ready.bus))
 
@@ -251,8 +259,8 @@ can-be-asked {B} {kind} {kept} {engine} {here} ready is = record {
   served = served ready;
   bus = ready.bus;
   here = subst IsHere (sym is) (here-within kept engine ready.limits ready.bus);
-  at = is ∙ here-seen kept engine ready.bus;
-  places = subst (λ (place : Here). All (IsPlayHere engine.tables place) (play_channels engine.parent)) (sym is) (channels-here kept engine ready.bus ready.places);
+  at = is ∙ here-seen kept engine.tables engine.parent ready.bus;
+  places = subst (λ (place : Here). All (IsPlayHere engine.tables place) (play_channels engine.parent)) (sym is) (channels-here kept engine.tables engine.parent engine.descriptors engine.order.own.playing ready.bus ready.places);
   count = bytes-counted ready;
   taken = maps-taken kind kept engine ready;
 }
@@ -271,11 +279,11 @@ due {B} {kind} {kept} {engine} {frames} ready fits =
       playing = λ slot other there. record {
         own = own.playing slot other there;
         ready = ready.playing slot other there;
-        given = (let played = (play-pace engine slot other there).played in omega (arith, played, few, mixed));
+        given = (let played = (play-pace engine.order slot other there).played in omega (arith, played, few, mixed));
         counted = (let counted = bytes-counted ready slot other there in omega (arith, counted));
       };
       recording = λ slot other there.
-          let pace = record-pace engine slot other there in
+          let pace = record-pace engine.order slot other there in
           record {
             own = own.recording slot other there;
             ready = ready.recording slot other there;
@@ -287,6 +295,6 @@ due {B} {kind} {kept} {engine} {frames} ready fits =
         own = own.mapped slot other there;
         ready = ready.mapped slot other there;
         counted = counts-fit engine.tables (mixed_in engine.tables frames engine.parent) (get_or (map_channels engine.parent) slot other) (subst IsOf (sym (own.mapped slot other there)) ready.limits.device_is)
-            (let given = (map-pace engine slot other there).given in omega (arith, given, few, mixed-few kept (device_of engine) engine.parent ready.bus engine.order.life));
+            (let given = (map-pace engine.order slot other there).given in omega (arith, given, few, mixed-few kept (device_of engine) engine.parent ready.bus engine.order.life));
       };
     }

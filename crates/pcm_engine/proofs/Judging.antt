@@ -81,14 +81,18 @@ free-undraining : (state : PlayState) → is_play_free state ≡ true → is_dra
 free-undraining Free free = refl
 free-undraining state free = absurd (true≢false (sym free))
 
+-- so it is anywhere
+pub free-here : (rate : Rate) (here : Here) (book : PlayBook) → is_play_free book.state ≡ true → PlayIsHere rate here book
+free-here rate here book free = record {
+  last = λ started. absurd (true≢false (sym started ∙ free-unstarted book.state free));
+  left = λ drains. absurd (true≢false (sym drains ∙ free-undraining book.state free));
+}
+
 -- a channel goes by the rate of its plan, unless it is free
 here-served : {B : Type 0} (filters : Filters) (here : Here) (channel : PlayChannelOf B) → IsPlayServed filters channel → PlayIsHere (path_rate channel.path) here channel.book → IsPlayHere filters here channel
 here-served filters here channel served is =
     elim (cases_Bool (is_play_free channel.book.state)) [
-      | inl free ↦ record {
-        last = λ started. absurd (true≢false (sym started ∙ free-unstarted channel.book.state free));
-        left = λ drains. absurd (true≢false (sym drains ∙ free-undraining channel.book.state free));
-      }
+      | inl free ↦ free-here _ here channel.book free
       | inr used ↦ subst (λ (plan : PlanSeen). PlayIsHere (rate_in_plan plan) here channel.book) (served used).plan_is is
     ]
 
@@ -163,7 +167,7 @@ open-taken : {B : Type 0} (parent : ParentOf B) (descriptors : Descriptors) → 
 open-taken parent descriptors all fd held is =
     sym (ap (is_held_or_shut parent) is) ∙ AllPass-from_list_all _ descriptors.held.value all fd None (open-there descriptors.held.value fd held is)
 
-number-at : (list : List (Option Held)) (fd : ℕ) → get_or (held_row list) fd 0 ≡ held_number (get_or list fd None)
+pub number-at : (list : List (Option Held)) (fd : ℕ) → get_or (held_row list) fd 0 ≡ held_number (get_or list fd None)
 number-at [] fd = refl
 number-at (one ∷ list) zero = refl
 number-at (one ∷ list) (suc fd) = number-at list fd

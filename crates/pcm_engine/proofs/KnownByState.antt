@@ -26,7 +26,7 @@ pub record SameDescriptors (one other : Descriptors) (more rest : List ℕ) : Ty
   pub held : other.held.value ≡ one.held.value
   pub left : rest ≡ more
 
-descriptors-known : (one other : Descriptors) (more rest : List ℕ) → AreWhole one → AreWhole other → descriptors_state other ++ rest ≡ descriptors_state one ++ more → SameDescriptors one other more rest
+pub descriptors-known : (one other : Descriptors) (more rest : List ℕ) → AreWhole one → AreWhole other → descriptors_state other ++ rest ≡ descriptors_state one ++ more → SameDescriptors one other more rest
 descriptors-known one other more rest whole its same =
     let groups : Descriptors → List ℕ = λ descriptors. spelled_numbers (groups_row descriptors.groups) in
     let held : Descriptors → List ℕ = λ descriptors. spelled_numbers (held_row descriptors.held.value) in

@@ -17,7 +17,9 @@ pub mod Stepping
 pub mod Cloning
 pub mod Tested
 pub mod Judging
+pub mod Placed
 pub mod KnownByState
 pub mod Loading
 pub mod Saving
 pub mod Loaded
+pub mod Taken

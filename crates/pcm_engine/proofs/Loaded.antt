@@ -51,7 +51,7 @@ parts-ready {B} kind kept device filters handed bytes engine has =
     let served = has.from.served in
     let same = seen-same device filters engine has.from.device_is has.filters_are in
     let bus = subst (λ (d : DeviceSeen). HasBus kept d parent) (sym same) has.from.bus in
-    let here = here-seen kept engine bus in
+    let here = here-seen kept engine.tables engine.parent bus in
     let At : PlayBook → Type 0 = λ book. PlayIsHere (play_rate_at (device_of engine) book) (desk_here (device_of engine) (desk_of engine)) book in
     ready-all kind kept engine
     (subst (λ (f : Filters). All (IsPlayReady kind kept f) (play_channels parent)) (sym has.filters_are) served.ready)

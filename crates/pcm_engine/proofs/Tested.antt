@@ -1,13 +1,27 @@
 -- Numbers and members that were tested one after another.
-use Rattle.std.proofs.Common.{◌≡◌, ℕ, ◌<◌, ◌≤◌, ◌+◌, Bool, true, List, length, get_or, inl, inr, sym, subst, arith}
-use Rattle.std.specs.Prelude.{slice_get}
+use Rattle.std.proofs.Common.{◌≡◌, ℕ, ◌<◌, ◌≤◌, ◌+◌, Bool, true, List, length, get_or, take, inl, inr, sym, ◌∙◌, subst, arith}
+use Rattle.std.specs.Prelude.{slice_get, ◌==◌}
+use Rattle.std.specs.List.{list_any}
 use Rattle.std.proofs.lemmas.Bool.{cases_lt}
-use Rattle.std.proofs.lemmas.List.{get_or_past}
-use Rattle.pcm_engine.specs.Judged.{WaitInGroups, some_is}
+use Rattle.std.proofs.lemmas.Bool.Decides.{nat_tests}
+use Rattle.std.proofs.lemmas.List.{get_or_past, length-take}
+use Rattle.std.proofs.lemmas.Grind.{common_steps}
+use Rattle.std.proofs.lemmas.List.Folds.{Any-from_list_any}
+use Rattle.pcm_engine.specs.Judged.{StandOnce, WaitInGroups, some_is}
 
 -- no two numbers below a place are one, but 0
 abbrev pub ApartBelow : ℕ → List ℕ → Type 0
 ApartBelow end numbers = (one other : ℕ) → one < end → other < end → 0 < get_or numbers one 0 → get_or numbers one 0 ≡ get_or numbers other 0 → one ≡ other
+
+-- a number that is among those before it doesn't stand once
+pub stands-twice : (numbers : List ℕ) (fd : ℕ) → list_any (λ its. its == get_or numbers fd 0) (take fd numbers) ≡ true → 0 < get_or numbers fd 0 → StandOnce numbers → ⊥
+stands-twice numbers fd among some once =
+    let found = Any-from_list_any (λ its. its == get_or numbers fd 0) (take fd numbers) among in
+    let before : found.0 < fd = omega (arith, found.2, length-take fd numbers) in
+    let is = found.4 in
+    let same : found.1 ≡ get_or numbers fd 0 = grind (arith, nat_tests) in
+    let its : get_or numbers found.0 0 ≡ found.1 = grind (arith, common_steps) in
+    absurd (omega (arith, before, once fd found.0 some (sym (its ∙ same))))
 
 -- each member below a place waits
 abbrev pub WaitBelow : {A : Type 0} → ℕ → (A → Bool) → List ℕ → List A → Type 0

@@ -11,7 +11,7 @@ pub mod Engines
 pub mod Views
 pub mod Types
 pub mod Clones
-pub mod LoadFaults
 pub mod Saved
+pub mod LoadFaults
 pub mod Judged
 pub mod Loads

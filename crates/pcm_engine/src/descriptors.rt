@@ -1,11 +1,12 @@
 //! Which descriptor holds which channel, which channels start together, and what a descriptor is refused for.
 
-ghost use Rattle.std.specs.Prelude.{◌≡◌, ◌<◌, All, IfOk, None, Some, length, replicate, slice_index_or};
+ghost use Rattle.std.specs.Prelude.{◌≡◌, ◌<◌, ◌++◌, ℕ, List, All, IfOk, IsOkUnless, None, Some, length, replicate, slice_index_or};
 ghost use Rattle.pcm_group.specs.Groups.{no_groups};
 ghost use Rattle.pcm_save.specs.Parts.{IsPart};
 ghost use Rattle.pcm_state.specs.HeldRows.{held_row, FitsHeld};
 ghost use Rattle.pcm_desk.specs.Channels.{member_refusal};
 ghost use Rattle.pcm_desk.specs.Desk.{left_by};
+ghost use Rattle.pcm_engine.specs.declared.load_fault.LoadFault.TheVariants.{Memory};
 ghost use Rattle.pcm_engine.specs.Descriptors.{holding, shut, slot_of};
 ghost use Rattle.pcm_engine.specs.Desks.{with_held};
 ghost use Rattle.pcm_engine.specs.Judged.{StandOnce};
@@ -36,6 +37,7 @@ pub struct Descriptors {
 
 impl Descriptors {
     ghost use Rattle.pcm_desk.specs.declared.limits.TheConstants.{DESCRIPTORS};
+    ghost use Rattle.pcm_engine.specs.declared.descriptors.Descriptors.{Descriptors};
     ghost use Rattle.pcm_engine.specs.declared.descriptors.TheConstants.{DESCRIPTOR_BYTES};
 
     /// All are shut, and there is no group.
@@ -97,6 +99,8 @@ impl Descriptors {
         ensures state { IfOk result (λ loaded. IsPart bytes.now 0 DESCRIPTOR_BYTES (descriptors_state loaded)) }
         ensures whole { IfOk result AreWhole }
         ensures apart { IfOk result (λ loaded. StandOnce (held_row loaded.held.value)) }
+        ensures taken { (saved : Descriptors) (rest : List ℕ) → AreWhole saved → StandOnce (held_row saved.held.value)
+            → bytes.now ≡ descriptors_state saved ++ rest → IsOkUnless result Memory }
     {
         let mut row = [0; GROUP_NUMBERS];
         load_row(bytes, &mut row)?;

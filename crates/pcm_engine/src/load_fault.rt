@@ -1,6 +1,6 @@
 //! Why bytes make no engine.
 
-ghost use Rattle.std.specs.Prelude.{◌≡◌, true, IfOk};
+ghost use Rattle.std.specs.Prelude.{◌≡◌, true, IfOk, IsOk};
 
 use pcm_save::StateFault;
 use std::alloc::AllocError;
@@ -52,7 +52,8 @@ impl From<StateFault> for LoadFault {
 
 /// That what was judged is in order.
 pub(crate) fn ordered(is: bool) -> Result<(), LoadFault>
-    ensures { IfOk result (λ _. is ≡ true) }
+    ensures passed { IfOk result (λ _. is ≡ true) }
+    ensures taken { is ≡ true → IsOk result }
 {
     if is {
         Ok(())

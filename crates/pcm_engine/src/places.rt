@@ -1,6 +1,6 @@
 //! Whether descriptors and groups that came from outside are those of the channels that are there.
 
-ghost use Rattle.std.specs.Prelude.{◌≡◌, ◌==◌, true, not, slice_get};
+ghost use Rattle.std.specs.Prelude.{◌≡◌, ◌↔◌, ◌==◌, true, not, slice_get};
 ghost use Rattle.std.specs.List.{list_all, list_any};
 ghost use Rattle.pcm_desk.specs.Channels.{is_held};
 ghost use Rattle.pcm_desk.specs.RunStates.{is_unheld};
@@ -81,7 +81,7 @@ fn is_held(state: PlayState) -> bool
 
 /// Whether no two numbers of what descriptors hold are one, but that of those which are shut.
 pub fn are_apart(numbers: &[u64]) -> bool
-    ensures { result ≡ true → StandOnce numbers.now }
+    ensures { (result ≡ true) ↔ StandOnce numbers.now }
 {
     for fd in 0..numbers.len() {
         if numbers[fd] != 0 && is_among(&numbers[..fd], numbers[fd]) {
@@ -99,7 +99,7 @@ fn is_among(numbers: &[u64], number: u64) -> bool
 
 /// Whether each member of a group that plays waits.
 pub fn play_members_wait<B: Feeder>(groups: &[u32], channels: &[PlayChannelOf<B>]) -> bool
-    ensures { result ≡ true → WaitInGroups (λ channel. play_waits channel.book) groups.now channels.now }
+    ensures { (result ≡ true) ↔ WaitInGroups (λ channel. play_waits channel.book) groups.now channels.now }
 {
     for slot in 0..groups.len() {
         if groups[slot] != 0 && !play_waits_at(channels, slot) {
@@ -111,7 +111,7 @@ pub fn play_members_wait<B: Feeder>(groups: &[u32], channels: &[PlayChannelOf<B>
 
 /// And each that records.
 pub fn record_members_wait<B: Feeder>(groups: &[u32], channels: &[RecordChannelOf<B>]) -> bool
-    ensures { result ≡ true → WaitInGroups (λ channel. record_waits channel.book) groups.now channels.now }
+    ensures { (result ≡ true) ↔ WaitInGroups (λ channel. record_waits channel.book) groups.now channels.now }
 {
     for slot in 0..groups.len() {
         if groups[slot] != 0 && !record_waits_at(channels, slot) {

@@ -1,10 +1,13 @@
 //! An engine as bytes, and the engine that goes on as bytes tell.
 
-ghost use Rattle.std.specs.Prelude.{◌≡◌, ◌≤◌, ◌<◌, ◌+◌, ◌*◌, ◌^◌, IfOk, drop, length};
+ghost use Rattle.std.specs.Prelude.{◌≡◌, ◌≤◌, ◌<◌, ◌+◌, ◌*◌, ◌^◌, ℕ, IfErr, IfOk, IsOk, IsOkUnless, drop, length};
 ghost use Rattle.pcm_digest.specs.Digests.{digest_of};
-ghost use Rattle.pcm_save.specs.Parents.{HasLoadedParent};
+ghost use Rattle.pcm_save.specs.Parents.{parent_state, CanParentBeLoaded, FitsParent, HasLoadedParent};
 ghost use Rattle.pcm_save.specs.Parts.{HasRow};
 ghost use Rattle.pcm_vchan.specs.Parents.{HasRacks};
+ghost use Rattle.pcm_vchan.specs.declared.parent.ParentOf.{ParentOf};
+ghost use Rattle.pcm_engine.specs.LoadFaults.{AreNamed, IsCause};
+ghost use Rattle.pcm_engine.specs.declared.load_fault.LoadFault.TheVariants.{Memory};
 ghost use Rattle.pcm_engine.specs.declared.limits.TheConstants.{LIFE};
 ghost use Rattle.pcm_feeder.specs.Racks.{list_of};
 ghost use Rattle.pcm_engine.specs.Engines.{CanBeMade};
@@ -50,6 +53,7 @@ impl<B: Feeder> EngineOf<B> {
     pub fn save(&self, out: &mut [u8])
         requires { CanBeSaved B.kind B.kept out.old self.now }
         ensures state { HasState B.kind B.kept out.new self.now }
+        ensures fits { FitsParent self.now.parent }
     {
         let (head, rest) = out.split_at_mut(HEAD_BYTES);
         let digest = digest_of(&self.parent.device, &self.tables);
@@ -77,6 +81,7 @@ impl<B: Feeder> EngineOf<B> {
         ensures clone { IfOk result (λ loaded. (engine : EngineOf B) → IsEngineOf device tables engine → HasState B.kind B.kept bytes.now engine
             → IsCloneOf B.kind B.kept engine loaded) }
         ensures racks { IfOk result (λ loaded. HasRacks B.mark (list_of racks) loaded.parent) }
+        ensures cause { IfErr result (IsCause B.kind B.kept device tables bytes.now) }
     {
         let handed = handed_in(&device, &tables, bytes)?;
         let descriptors = Descriptors::load(alloc, &bytes[HEAD_BYTES..])?;
@@ -106,6 +111,7 @@ impl<B: Feeder> EngineOf<B> {
         ensures clone { IfOk result (λ loaded. (engine : EngineOf B) → IsEngineOf self.now.parent.device self.now.tables engine
             → HasState B.kind B.kept bytes.now engine → IsCloneOf B.kind B.kept engine loaded) }
         ensures racks { IfOk result (λ loaded. HasRacks B.mark (list_of racks) loaded.parent) }
+        ensures cause { IfErr result (IsCause B.kind B.kept self.now.parent.device self.now.tables bytes.now) }
     {
         let tables = copied(alloc, &self.tables)?;
         EngineOf::load(alloc, self.parent.device, tables, racks, bytes)
@@ -116,6 +122,8 @@ impl<B: Feeder> EngineOf<B> {
 fn handed_in(device: &Device, tables: &Tables, bytes: &[u8]) -> Result<u64, LoadFault>
     ensures head { IfOk result (λ handed. HasRow bytes.now (head_row (digest_of tables.now device.now) handed)) }
     ensures life { IfOk result (λ handed. handed ≤ LIFE) }
+    ensures taken { (handed : ℕ) → HasRow bytes.now (head_row (digest_of tables.now device.now) handed) → handed ≤ LIFE → IsOk result }
+    ensures named { AreNamed tables.now device.now bytes.now result }
 {
     let mut row = [0; HEAD_NUMBERS];
     load_row(bytes, &mut row)?;
@@ -140,8 +148,10 @@ fn load_all<B: Feeder>(
 ) -> Result<(), LoadFault>
     requires made { IsMadeFor B.kind tables.now handed parent.old }
     requires front { DESCRIPTOR_BYTES ≤ length bytes.now }
-    ensures { IfOk result (λ _. HasLoadedParent B.kind B.kept B.mark tables.now handed
+    ensures loaded { IfOk result (λ _. HasLoadedParent B.kind B.kept B.mark tables.now handed
         (drop DESCRIPTOR_BYTES bytes.now) (length (drop DESCRIPTOR_BYTES bytes.now)) parent.old parent.new) }
+    ensures taken { (saved : ParentOf B) → CanParentBeLoaded B.kind B.kept tables.now saved parent.old
+        → drop DESCRIPTOR_BYTES bytes.now ≡ parent_state B.kept saved → IsOkUnless result Memory }
 {
     let mut past = vec![in alloc; 0i32; PAST_SAMPLES]?;
     let rest = &bytes[DESCRIPTOR_BYTES..];
@@ -155,7 +165,8 @@ fn load_all<B: Feeder>(
 // That descriptors, groups and counts are in order, where the mix and the device are.
 fn judge<B: Feeder>(parent: &ParentOf<B>, descriptors: &Descriptors) -> Result<(), LoadFault>
     requires { CanBeJudged parent.now }
-    ensures { IfOk result (λ _. AreInPlace parent.now descriptors.now) }
+    ensures place { IfOk result (λ _. AreInPlace parent.now descriptors.now) }
+    ensures taken { AreInPlace parent.now descriptors.now → IsOk result }
 {
     ordered(are_in_place(&parent.channels, parent.here()))?;
     ordered(recordings_keep_pace(&parent.recorders, parent.handed))?;

@@ -53,8 +53,8 @@ pub record IsCloned (is_clone_of : Session → Session → Type 0) (engine old n
   pub memory : IsSome engine → old ≡ None → result ≢ pos 0 → result ≡ fault_number Memory
 
 -- The result of loading a state. Without an engine nothing is loaded, and the number says so. Else 0 says that the engine goes on as the bytes
--- tell; and any other number is that of a fault, and the engine is as it was.
-pub record IsLoaded (goes_on : Session → Session → Type 0) (old new : Option Session) (result : ℤ) : Type 0 where
+-- tell; and any other number is that of a fault, which is the cause, and the engine is as it was.
+pub record IsLoaded (goes_on : Session → Session → Type 0) (cause : Session → LoadFault → Type 0) (old new : Option Session) (result : ℤ) : Type 0 where
   pub none : old ≡ None → (new ≡ None) × (result ≡ call_fault_number Engine)
   pub loaded : IsSome old → result ≡ pos 0 → OnHeld old new goes_on
-  pub refused : IsSome old → result ≢ pos 0 → (new ≡ old) × ((fault : LoadFault) × (result ≡ load_fault_number fault))
+  pub refused : IsSome old → result ≢ pos 0 → (new ≡ old) × ((fault : LoadFault) × (result ≡ load_fault_number fault) × IfSome old (λ session. cause session fault))

@@ -15,7 +15,7 @@ ghost use Rattle.pcm_session.specs.Calls.{Discards, Interrupts, MakesCall, besid
 ghost use Rattle.pcm_session.specs.Questions.{peek_told, ready_told, told_settings, slot_told};
 ghost use Rattle.pcm_session.specs.Taken.{frames_left, unheard_room};
 ghost use Rattle.pcm_engine.specs.Saved.{engine_state};
-ghost use Rattle.pcm_session.specs.States.{GoesOnFrom};
+ghost use Rattle.pcm_session.specs.States.{GoesOnFrom, IsCauseFor};
 ghost use Rattle.pcm_engine_c.specs.Sessions.{IsLoaded};
 ghost use Rattle.pcm_engine_c.specs.Told.{IsSaveTold, IsTold, IsWait, ready_number, saved_number, wait_number};
 ghost use Rattle.pcm_session.specs.Events.{event_for_close, event_for_ioctl, event_for_join, event_for_mixer, event_for_open, event_for_poke, event_for_read, event_for_start, event_for_write};
@@ -122,6 +122,7 @@ pub extern "C" fn dsp_raw_save(alloc: Global, engine: &mut Handle, out: &mut [u8
 pub extern "C" fn dsp_raw_load(alloc: Global, engine: &mut Handle, bytes: &[u8]) -> i32
     ensures { IsLoaded (λ session loaded. GoesOnFrom
         ⟦<Stage as Feeder>⟧.kind ⟦<Stage as Feeder>⟧.kept bytes.now session.of.engine loaded.of.engine)
+        (λ session. IsCauseFor ⟦<Stage as Feeder>⟧.kind ⟦<Stage as Feeder>⟧.kept bytes.now session.of.engine)
         engine.old.slot.session engine.new.slot.session result }
 {
     let Some(session) = engine.take(alloc) else {

@@ -4,7 +4,7 @@ ghost use Rattle.std.specs.Prelude.{◌≡◌, true, false, IfOk, IfErr};
 ghost use Rattle.pcm_engine.specs.Clones.{IsCloneOf};
 ghost use Rattle.pcm_engine.specs.Engines.{AreReady};
 ghost use Rattle.pcm_engine_c.specs.Sessions.{IsNew, is_possible};
-ghost use Rattle.pcm_session.specs.States.{GoesOnFrom};
+ghost use Rattle.pcm_session.specs.States.{GoesOnFrom, IsCauseFor};
 ghost use Rattle.pcm_foreign.specs.declared.fault.NumbersFault.TheVariants.{Argument, Memory};
 
 use feed_stages::{Stage, stage_racks};
@@ -82,8 +82,10 @@ pub fn session_load(
 ) -> Result<Box<Session>, LoadFault>
     requires { AreReady
         ⟦<Stage as Feeder>⟧.kind ⟦<Stage as Feeder>⟧.kept session.now.of.engine }
-    ensures { IfOk result (λ made. GoesOnFrom
+    ensures goes { IfOk result (λ made. GoesOnFrom
         ⟦<Stage as Feeder>⟧.kind ⟦<Stage as Feeder>⟧.kept bytes.now session.now.of.engine made.value.of.engine) }
+    ensures cause { IfErr result (IsCauseFor
+        ⟦<Stage as Feeder>⟧.kind ⟦<Stage as Feeder>⟧.kept bytes.now session.now.of.engine) }
 {
     let Ok(racks) = stage_racks(alloc) else {
         return Err(LoadFault::Memory);

@@ -1,10 +1,10 @@
 //! The state of a session's engine as bytes, and a session that goes on as bytes tell.
 
-ghost use Rattle.std.specs.Prelude.{◌≡◌, ◌<◌, ◌^◌, IfOk, length};
+ghost use Rattle.std.specs.Prelude.{◌≡◌, ◌<◌, ◌^◌, IfErr, IfOk, length};
 ghost use Rattle.pcm_engine.specs.Engines.{AreReady};
 ghost use Rattle.pcm_engine.specs.Saved.{engine_state};
 ghost use Rattle.pcm_session.specs.Beginnings.{CanBeCloned, first_reply};
-ghost use Rattle.pcm_session.specs.States.{GoesOnFrom, IsSaved, load_fault_number};
+ghost use Rattle.pcm_session.specs.States.{GoesOnFrom, IsCauseFor, IsSaved, load_fault_number};
 
 use crate::session::SessionOf;
 use pcm_engine::LoadFault;
@@ -55,8 +55,9 @@ impl<B: Feeder> SessionOf<B> {
         bytes: &[u8],
     ) -> Result<SessionOf<B>, LoadFault>
         requires { CanBeCloned B.kind B.kept self.now.engine racks }
-        ensures { IfOk result (λ session. GoesOnFrom B.kind B.kept bytes.now self.now.engine session.engine
+        ensures goes { IfOk result (λ session. GoesOnFrom B.kind B.kept bytes.now self.now.engine session.engine
             × (session.reply ≡ first_reply)) }
+        ensures cause { IfErr result (IsCauseFor B.kind B.kept bytes.now self.now.engine) }
     {
         let engine = self.engine.try_load(alloc, racks, bytes)?;
         let session = SessionOf::of(alloc, engine)?;

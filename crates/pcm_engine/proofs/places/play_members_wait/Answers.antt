@@ -1,4 +1,4 @@
-use Rattle.std.proofs.Common.{sym, ◌∙◌, arith}
+use Rattle.std.proofs.Common.{refl, sym, ◌∙◌, arith}
 use Rattle.pcm_engine.proofs.Tested.{wait-all, wait-more}
 use Rattle.pcm_engine.proofs.places.play_members_wait.Goals.{else-groups-slot-ne0-via-then-groups-slot-ne0+else-not-play_waits_at, else-groups-slot-ne0-via-else-groups-slot-ne0}
 use Rattle.pcm_engine.proofs.places.play_members_wait.Goals as goal
@@ -12,4 +12,4 @@ loop-slot-preserved g c =
     ])
 
 pub returns : goal.returns
-returns g c = λ passed. wait-all _ c.args.groups.now c.args.channels.now c.loop-slot.slot c.loop-slot.invariant (omega (arith, c.loop-slot-test.false))
+returns g c = (λ passed. wait-all _ c.args.groups.now c.args.channels.now c.loop-slot.slot c.loop-slot.invariant (omega (arith, c.loop-slot-test.false)), λ wait. refl)

@@ -17,7 +17,7 @@ returns-clause-given g c =
     let engine = c.args.self.now in
     let there = c.requires.there in
     let slots = engine.parent.slots in
-    let played = (play-pace engine c.args.slot c.index.result.now
+    let played = (play-pace engine.order c.args.slot c.index.result.now
     (omega (arith, there, slots, items-count engine.parent.channels))).played in
     subst (λ (channel : PlayChannelOf _). channel.book.given < 2 ^ 53) (sym c.index.ensures)
     (omega (arith, played, few-mixed g.B.Feeder.kept engine c.requires.ready.bus))

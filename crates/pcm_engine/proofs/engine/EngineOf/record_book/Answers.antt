@@ -11,7 +11,7 @@ returns-clause-captured g c =
     let engine = c.args.self.now in
     let there = c.requires in
     let slots = engine.parent.recorders_count in
-    let captured = (record-pace engine c.args.slot c.index.result.now
+    let captured = (record-pace engine.order c.args.slot c.index.result.now
     (omega (arith, there, slots, items-count engine.parent.recorders))).captured in
     subst (λ (channel : RecordChannelOf _). channel.book.captured ≤ LIFE) (sym c.index.ensures) (omega (arith, captured, engine.order.life))
 
@@ -20,7 +20,7 @@ returns-clause-kept g c =
     let engine = c.args.self.now in
     let there = c.requires in
     let slots = engine.parent.recorders_count in
-    let kept = (record-pace engine c.args.slot c.index.result.now
+    let kept = (record-pace engine.order c.args.slot c.index.result.now
     (omega (arith, there, slots, items-count engine.parent.recorders))).kept in
     subst (λ (channel : RecordChannelOf _). channel.book.kept ≤ RING_BYTES * LIFE) (sym c.index.ensures)
     (omega (arith, kept, engine.order.life))

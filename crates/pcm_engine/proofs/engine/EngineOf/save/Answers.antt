@@ -35,6 +35,7 @@ pub returns : goal.returns
 returns g c =
     let engine = c.args.self.now in
     record {
+      fits = c.save_parent.ensures.fits;
       state = record {
         ready = c.requires.ready;
         whole = record { parent = c.save_parent.ensures.whole; descriptors = c.size.ensures.whole };

@@ -13,6 +13,7 @@ returns g c =
     let rest : List ℕ = drop count c.args.out.now in
     record {
       size = c.state_size-size.ensures.size;
+      fits = c.save.ensures.fits;
       state = subst (λ (bytes : List ℕ). HasState g.B.Feeder.kind g.B.Feeder.kept bytes engine) (sym (take_at new rest count long)) state;
       rest = drop_at new rest count long;
     }
